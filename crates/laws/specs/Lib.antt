@@ -1,0 +1,2 @@
+-- Laws that the proofs of more than one crate cite.
+pub mod Cases

@@ -1,0 +1,3 @@
+-- The paper's numbers, registers and limits by name.
+pub mod Numbers
+pub mod Registers
