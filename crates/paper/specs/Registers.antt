@@ -1,6 +1,8 @@
 -- Registers by their addresses, lengths and limits.
 use Prim.Native.Nat.{ℕ}
+use mathlib.Core.Bool.{Bool, _&&_, _||_}
 use mathlib.Core.List.{List, [], _∷_}
+use lib.Dec.{leb, eqb}
 
 -- ---- lengths of the calibration blocks and of the data
 
@@ -44,6 +46,21 @@ lastData = 0xFE
 
 abbrev pub lastRegister : ℕ
 lastRegister = 0xFF
+
+-- only F2, F4, F5 and E0 may be written
+abbrev pub isWritable : ℕ → Bool
+isWritable a = eqb a ctrlHum || (eqb a ctrlMeas || (eqb a config || eqb a reset))
+
+-- reads take 0x80 to 0xFF
+abbrev pub isReadable : ℕ → Bool
+isReadable a = leb firstRegister a && leb a lastRegister
+
+-- the status bits, 3 and 0
+abbrev pub statusRunning : ℕ
+statusRunning = 8
+
+abbrev pub statusCopying : ℕ
+statusCopying = 1
 
 -- what the chip's id register gives, and the byte that resets
 abbrev pub bme280 : ℕ

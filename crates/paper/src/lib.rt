@@ -66,6 +66,11 @@ pub const LAST_DATA: u8 = 0xFE;
 
 pub const LAST_REGISTER: u8 = 0xFF;
 
+// The status bits, 3 and 0.
+pub const STATUS_RUNNING: u8 = 8;
+
+pub const STATUS_COPYING: u8 = 1;
+
 // What the chip's id register gives, and the byte that resets.
 pub const BME280: u8 = 0x60;
 
