@@ -25,6 +25,13 @@ not-yes r b z x y e f p = called-no r b z x y (not-true r e) f p
 pub not-no : {A : Type 0} (r b : Bool) (z x y : A) → not r ≡ false → r ≡ b → z ≡ x → z ≡ cond b x y
 not-no r b z x y e f p = called-yes r b z x y (not-false r e) f p
 
+-- where the definition asks `not` too
+pub not-not-yes : {A : Type 0} (r b : Bool) (z x y : A) → not r ≡ true → r ≡ b → z ≡ x → z ≡ cond (not b) x y
+not-not-yes r b z x y e f p = yes (not b) z x y (ap not (sym f) ∙ e) p
+
+pub not-not-no : {A : Type 0} (r b : Bool) (z x y : A) → not r ≡ false → r ≡ b → z ≡ y → z ≡ cond (not b) x y
+not-not-no r b z x y e f p = no (not b) z x y (ap not (sym f) ∙ e) p
+
 -- where the code's own test is of two numbers
 pub lt-yes : {A : Type 0} (m n : ℕ) (z x y : A) → m < n → z ≡ x → z ≡ cond (ltb m n) x y
 lt-yes m n z x y e p = yes (ltb m n) z x y (lt-ltb m n e) p
@@ -43,6 +50,12 @@ eq-yes m n z x y e p = yes (eqb m n) z x y (eq-eqb m n e) p
 
 pub eq-no : {A : Type 0} (m n : ℕ) (z x y : A) → (m ≡ n → ⊥) → z ≡ y → z ≡ cond (eqb m n) x y
 eq-no m n z x y e p = no (eqb m n) z x y (ne-eqb m n e) p
+
+pub ne-yes : {A : Type 0} (m n : ℕ) (z x y : A) → (m ≡ n → ⊥) → z ≡ x → z ≡ cond (not (eqb m n)) x y
+ne-yes m n z x y e p = yes (not (eqb m n)) z x y (ap not (ne-eqb m n e)) p
+
+pub ne-no : {A : Type 0} (m n : ℕ) (z x y : A) → m ≡ n → z ≡ y → z ≡ cond (not (eqb m n)) x y
+ne-no m n z x y e p = no (not (eqb m n)) z x y (ap not (eq-eqb m n e)) p
 
 -- where the code's && stops at a first test that fails
 pub and-yes : (a b z : Bool) → a ≡ true → z ≡ b → z ≡ (a && b)
@@ -63,4 +76,4 @@ le-and-yes m n b z e p = and-yes (leb m n) b z (le-leb m n e) p
 pub le-and-no : (m n : ℕ) (b z : Bool) → n < m → z ≡ false → z ≡ (leb m n && b)
 le-and-no m n b z e p = and-no (leb m n) b z (lt-leb m n e) p
 
-pub ruleset cases = (yes, no, called-yes, called-no, not-yes, not-no, lt-yes, lt-no, le-yes, le-no, eq-yes, eq-no, and-yes, and-no, called-and-yes, called-and-no, le-and-yes, le-and-no)
+pub ruleset cases = (yes, no, called-yes, called-no, not-yes, not-no, not-not-yes, not-not-no, lt-yes, lt-no, le-yes, le-no, eq-yes, eq-no, ne-yes, ne-no, and-yes, and-no, called-and-yes, called-and-no, le-and-yes, le-and-no)

@@ -2,7 +2,7 @@
 use Prim.Native.Nat.{ℕ, _+_, _-_, _*_, _/_, _%_}
 use mathlib.Core.Bool.{Bool, true, false, cond, _&&_}
 use mathlib.Core.List.{List, [], _∷_}
-use lib.Dec.{leb, ltb, eqb}
+use lib.Dec.{ltb, eqb}
 use lib.ListN.{getD}
 use Rattle.paper.specs.Registers as reg
 use Rattle.machine.specs.declared.Device.{Device}
@@ -12,7 +12,7 @@ use Rattle.machine.specs.State.{runs}
 -- ---- stored
 
 -- the counts have 20, 20 and 16 bits
-unfoldable pub inRange : ℕ → ℕ → ℕ → Bool
+abbrev pub inRange : ℕ → ℕ → ℕ → Bool
 inRange t p h = ltb t reg.count20 && (ltb p reg.count20 && ltb h reg.count16)
 
 -- a channel of code 0 is skipped
@@ -38,16 +38,16 @@ stored d t p h =
 abbrev pub status : Device → ℕ
 status d = cond (runs (d .phase)) reg.statusRunning 0 + cond (d .copying) reg.statusCopying 0
 
-abbrev pub isData : ℕ → Bool
-isData a = leb reg.firstData a && leb a reg.lastData
+-- F7 to FE: the shown bytes
+abbrev pub dataAt : ℕ → Machine → ℕ
+dataAt a m = cond (ltb a reg.firstData) 0 (cond (ltb reg.lastData a) 0 (getD (m .shown .bytes) (a - reg.firstData) 0))
 
--- every address but these gives 0
-unfoldable pub register : ℕ → Machine → ℕ
+-- every address but these, the data and the control registers gives 0
+abbrev pub register : ℕ → Machine → ℕ
 register a m =
     cond (eqb a reg.chipId) reg.bme280
     (cond (eqb a reg.ctrlHum) (m .device .f2)
     (cond (eqb a reg.status) (status (m .device))
     (cond (eqb a reg.ctrlMeas) (m .device .f4)
     (cond (eqb a reg.config) (m .device .f5)
-    (cond (isData a) (getD (m .shown .bytes) (a - reg.firstData) 0)
-    0)))))
+    (dataAt a m)))))

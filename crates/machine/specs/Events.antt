@@ -83,12 +83,14 @@ writtenControl m a v =
     (cond (eqb a reg.config) (writtenF5 m v)
     (writtenF4 m v)))
 
+abbrev pub writtenRegister : Machine → ℕ → ℕ → Outcome
+writtenRegister m a v = cond (eqb a reg.reset) (writtenReset m v) (writtenControl m a v)
+
 abbrev pub written : Machine → ℕ → ℕ → Outcome
 written m a v =
     cond (isOpen (m .burst)) (answered burstIsOpen m)
     (cond (not (reg.isWritable a)) (answered addressNotAllowed m)
-    (cond (eqb a reg.reset) (writtenReset m v)
-    (writtenControl m a v)))
+    (writtenRegister m a v))
 
 -- ---- finish: checks 6 (not running), 7 (20, 20, 16 bits), 8
 
@@ -151,11 +153,14 @@ opened m a =
 abbrev pub given : ℕ → ℕ → Machine → Given
 given n x m = record { answer = n; value = x; machine = m }
 
-abbrev pub byteOf : Burst → Machine → Given
-byteOf Closed m = given wrongPhase 0 m
-byteOf (Open first next) m =
+abbrev pub byteAt : ℕ → ℕ → Machine → Given
+byteAt first next m =
     cond (ltb reg.lastRegister next) (given addressNotAllowed 0 m)
     (given done (register next m) (withBurst (Open first (next + 1)) m))
+
+abbrev pub byteOf : Burst → Machine → Given
+byteOf Closed m = given wrongPhase 0 m
+byteOf (Open first next) m = byteAt first next m
 
 abbrev pub byteGiven : Machine → Given
 byteGiven m = byteOf (m .burst) m
@@ -173,9 +178,13 @@ delivering m =
     withShown (record { number = m .shown .number; codes = m .shown .codes; bytes = m .shown .bytes; delivered = isThere (m .shown) })
     (withLedger (deliveredIf (isUnread (m .shown)) (m .ledger)) m)
 
--- the burst ends, and what waits is shown
+-- what waits is shown
+unfoldable pub waitingShown : Machine → Machine
+waitingShown m = cond (isThere (m .waiting)) (withWaiting noConversion (showing (m .waiting) m)) m
+
+-- the burst ends
 abbrev pub ended : Machine → Machine
-ended m = withBurst Closed (cond (isThere (m .waiting)) (withWaiting noConversion (showing (m .waiting) m)) m)
+ended m = withBurst Closed (waitingShown m)
 
 -- no number, no codes, not delivered
 abbrev pub closing : ℕ → Machine → Closing

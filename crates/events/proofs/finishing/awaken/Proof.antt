@@ -1,0 +1,5 @@
+use Rattle.events.proofs.finishing.awaken.Statement.{statement}
+use Rattle.events.proofs.finishing.awaken.Tie as tie
+
+pub awaken-spec : {M : Type 1} → statement M
+awaken-spec = tie.close (tie.spec (λ c κs. tt) (λ c κs. tt) (λ c. cc))

@@ -1,0 +1,5 @@
+use Rattle.events.proofs.finishing.convert.Statement.{statement}
+use Rattle.events.proofs.finishing.convert.Tie as tie
+
+pub convert-spec : {M : Type 1} → statement M
+convert-spec = tie.close (tie.spec (λ c κs. tt) (λ c κs. tt) (λ c κs. tt) (λ c. cc))

@@ -1,0 +1,5 @@
+use Rattle.events.proofs.finishing.is_barred.Statement.{statement}
+use Rattle.events.proofs.finishing.is_barred.Tie as tie
+
+pub is-barred-spec : {M : Type 1} → statement M
+is-barred-spec = tie.close (tie.spec (λ c κs. tt) (λ c κs. tt) (λ c κs. tt) (λ c. cc))

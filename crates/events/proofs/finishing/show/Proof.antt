@@ -1,0 +1,10 @@
+use Rattle.machine.specs.Events.{showing}
+use Rattle.events.proofs.finishing.show.Statement.{statement}
+use Rattle.events.proofs.finishing.show.Tie as tie
+
+returns : tie.Need-returns
+unfolding showing
+returns c = cc
+
+pub show-spec : {M : Type 1} → statement M
+show-spec = tie.close (tie.spec (λ c κs. tt) (λ c κs. tt) returns)

@@ -1,0 +1,5 @@
+use Rattle.events.proofs.reading.end.Statement.{statement}
+use Rattle.events.proofs.reading.end.Tie as tie
+
+pub end-spec : {M : Type 1} → statement M
+end-spec = tie.close (tie.spec (λ c κs. tt) (λ c κs. tt) (λ c. cc))

@@ -1,0 +1,5 @@
+use Rattle.events.proofs.start.reset.Statement.{statement}
+use Rattle.events.proofs.start.reset.Tie as tie
+
+pub reset-spec : {M : Type 1} → statement M
+reset-spec = tie.close (tie.spec (λ c κs. tt) (λ c κs. tt) (λ c. cc))
