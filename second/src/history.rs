@@ -90,6 +90,11 @@ pub fn whole_at(history: &[Happening], moment: usize) -> bool {
     let Some(opening) = opening_at(history, moment) else {
         return false;
     };
-    let given = |address: u8| history[opening..moment].contains(&Happening::Given(address));
-    (0xF7..=0xFE).all(given)
+    let mut given = [false; DATA];
+    for happening in &history[opening..moment] {
+        if let Happening::Given(address @ 0xF7..=0xFE) = happening {
+            given[usize::from(address - 0xF7)] = true;
+        }
+    }
+    given == [true; DATA]
 }

@@ -127,7 +127,7 @@ impl Machine {
     /// What was running, waiting or shown is told from the record.
     fn reset(&mut self) {
         self.record.add(Happening::Reset);
-        let record = std::mem::take(&mut self.record);
+        let record = std::mem::replace(&mut self.record, Record::fresh(0));
         *self = Machine {
             record,
             ..Machine::fresh(0)

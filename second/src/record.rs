@@ -5,7 +5,7 @@ use crate::history::{
 };
 use crate::ledger::{deliveries, places, Ledger, Place};
 
-const FOLD_AT: usize = 400;
+const ROOM: usize = 48;
 
 /// The history since the fresh state, and the ledger of the conversions folded away.
 ///
@@ -24,9 +24,10 @@ const FOLD_AT: usize = 400;
 ///   Any other one delivers nothing that is still running, waiting or shown.
 /// - A reset leaves nothing running, waiting, shown or open, so that all that is
 ///   kept lies after the latest one.
-#[derive(Clone, Debug, Default)]
+#[derive(Clone, Debug)]
 pub struct Record {
     history: Vec<Happening>,
+    fold_at: usize,
     settled: Ledger,
     begun: u64,
 }
@@ -37,6 +38,7 @@ impl Record {
     pub fn fresh(begun: u64) -> Self {
         Record {
             history: Vec::new(),
+            fold_at: ROOM,
             settled: Ledger {
                 begun,
                 delivered: begun,
@@ -47,10 +49,11 @@ impl Record {
     }
 
     /// Adds what happened to the end of the history.
-    /// A long history is folded first.
+    /// A history that has outgrown its room since the last folding is folded first.
     pub fn add(&mut self, happening: Happening) {
-        if self.history.len() >= FOLD_AT {
+        if self.history.len() >= self.fold_at {
             self.fold();
+            self.fold_at = self.history.len() + ROOM;
         }
         self.history.push(happening);
     }

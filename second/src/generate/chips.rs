@@ -119,6 +119,7 @@ pub fn pressed(random: &mut Random) -> Words {
 /// H2 of 1024 is the first to leave the type there.
 pub fn damp(random: &mut Random) -> Words {
     let mut words = k5_words();
+    words.p = real(random).p;
     words.h = [
         random.between(0, 255),
         random.pick(&[-1025, -1024, 362, 700, 1023, 1024]) + random.between(-1, 1),

@@ -60,12 +60,12 @@ impl Generator {
     /// Writes a step while calibration is still being copied.
     /// Copying ends soon; until then writes are refused and bursts show fresh bytes.
     fn step_copying(&mut self) {
-        match self.random.below(20) {
-            0 => self.one(events::write_f4),
-            1 => self.one(events::write_settings),
-            2 => self.one(events::write_reset),
-            3 => self.one(events::finish),
-            4 | 5 => self.burst(),
+        match self.random.below(100) {
+            0..=4 => self.one(events::write_f4),
+            5..=7 => self.one(events::write_settings),
+            8 | 9 => self.one(events::write_reset),
+            10 | 11 => self.one(events::finish),
+            12..=19 => self.burst(),
             _ => self.say("copied"),
         }
     }
@@ -73,11 +73,11 @@ impl Generator {
     /// Writes a step in sleep.
     /// Settings are written, and a conversion begins soon.
     fn step_in_sleep(&mut self) {
-        match self.random.below(20) {
-            0..=3 => self.one(events::write_settings),
-            4..=13 => self.one(events::write_f4),
-            14 => self.one(events::write_reset),
-            15 => self.one(events::any),
+        match self.random.below(100) {
+            0..=14 => self.one(events::write_settings),
+            15..=74 => self.one(events::write_f4),
+            75 | 76 => self.one(events::write_reset),
+            77..=79 => self.one(events::any),
             _ => self.burst(),
         }
     }
@@ -85,12 +85,12 @@ impl Generator {
     /// Writes a step while a conversion is running.
     /// It finishes soon; F4 is held before that in many cases.
     fn step_running(&mut self) {
-        match self.random.below(20) {
-            0..=7 => self.one(events::finish),
-            8..=11 => self.one(events::write_f4),
-            12 => self.one(events::write_settings),
-            13 => self.one(events::write_reset),
-            14 => self.say("power"),
+        match self.random.below(100) {
+            0..=49 => self.one(events::finish),
+            50..=69 => self.one(events::write_f4),
+            70..=76 => self.one(events::write_settings),
+            77 | 78 => self.one(events::write_reset),
+            79 => self.say("power"),
             _ => self.burst(),
         }
     }
@@ -98,11 +98,12 @@ impl Generator {
     /// Writes a step in standby.
     /// The device wakes soon; F4 may end the standby or leave it running.
     fn step_in_standby(&mut self) {
-        match self.random.below(20) {
-            0..=8 => self.say("wake"),
-            9..=11 => self.one(events::write_f4),
-            12 | 13 => self.one(events::write_settings),
-            14 => self.one(events::write_reset),
+        match self.random.below(100) {
+            0..=49 => self.say("wake"),
+            50..=64 => self.one(events::write_f4),
+            65..=72 => self.one(events::write_settings),
+            73 | 74 => self.one(events::write_reset),
+            75 => self.say("power"),
             _ => self.burst(),
         }
     }
@@ -110,18 +111,21 @@ impl Generator {
     /// Writes a step while a burst has been left open.
     /// It goes on, or conversions finish and begin under it, or it is closed.
     fn step_in_burst(&mut self) {
-        match self.random.below(20) {
-            0..=6 => self.say("byte"),
-            7..=12 => self.under_burst(),
-            13 => self.one(events::any),
-            14 => self.say("power"),
+        match self.random.below(100) {
+            0..=34 => self.say("byte"),
+            35..=66 => self.under_burst(),
+            67..=70 => self.one(events::any),
+            71..=73 => self.say("power"),
             _ => self.one(events::close),
         }
     }
 
     /// Writes what can happen in the device while a burst is open.
-    /// Conversions finish and the device wakes; copying ends.
+    /// Conversions finish and the device wakes; copying ends; the ledger may be asked.
     fn under_burst(&mut self) {
+        if self.random.percent(10) {
+            self.say("ledger");
+        }
         let machine = self.bench.machine();
         match (machine.phase(), machine.copying()) {
             (_, true) => self.say("copied"),
@@ -136,6 +140,9 @@ impl Generator {
     fn burst(&mut self) {
         let address = events::open_address(&mut self.random);
         self.say(format!("open {address:02X}"));
+        if self.bench.machine().next_address().is_none() {
+            return;
+        }
         let whole = self.random.percent(65) && address >= 0xE0;
         let restless = self.random.percent(40);
         let bytes = match whole {
@@ -144,7 +151,7 @@ impl Generator {
         };
         for _ in 0..bytes {
             self.say("byte");
-            if restless && self.random.percent(35) {
+            if restless && self.random.percent(30) {
                 self.under_burst();
             }
         }
