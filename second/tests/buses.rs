@@ -1,11 +1,8 @@
-//! Bus bytes, waiting and compensation limits: the order of the checks.
+//! Bus bytes: the order of the checks, and what is written to a lent buffer.
 
 mod common;
 
 use common::check;
-use second::calibration::Words;
-use second::sheet::zero_divisor_words;
-use second::spelling::reading;
 
 /// I2C writing: 4 for the device, 15, 4 for registers, 9.
 /// Bytes past the output stay; nothing is written where refused.
@@ -95,82 +92,5 @@ fn spi_writing_and_decoding() {
          spi decode 7427E0B6 4 => 16 buf=AAAAAAAA
          spi decode 7427 4 => 0 n=2 buf=F427AAAA
          spi decode 60B67207 4 => 0 n=4 buf=E0B6F207"
-    ));
-}
-
-/// Waiting: codes 0 to 4 mean 0, 1, 2, 4, 8 samples, 5 to 7 mean 16.
-/// A channel without samples adds nothing.
-#[test]
-fn waiting() {
-    check(
-        "wait max 2 0 0 => 0 5850
-         wait max 0 3 0 => 0 11025
-         wait max 0 0 4 => 0 20225
-         wait max 7 6 5 => 0 112800
-         wait typ 0 0 0 => 0 1000
-         wait typ 5 5 5 => 0 98000
-         wait typ 0 1 0 => 0 3500
-         wait typ 0 0 8 => 7",
-    );
-}
-
-/// Pressure's numbers: a zero divisor with P1 not 0, negative, above 32 bits, out of 64.
-/// Humidity leaves its type at an H2 of 1024 there.
-#[test]
-fn limits_of_compensation() {
-    let k2 = Words {
-        t: [27504, 26435, -1000],
-        p: [36477, -10685, 3024, 2855, 140, -7, 15500, -14600, 6000],
-        h: [0; 6],
-    };
-    let counts = [519_888, 415_148, 0];
-    let with = |place: usize, word: i64| {
-        let mut words = k2;
-        words.p[place] = word;
-        words
-    };
-    let mut above = with(0, 200);
-    above.p[8] = 0;
-    let damp = |h2: i64| Words {
-        t: [0, 2048, 0],
-        p: [0; 9],
-        h: [75, h2, 0, 0, 0, 0],
-    };
-    check(&format!(
-        "{} => 0 t=-17980 fine=-920576 p!13 h!10
-         {} => 0 t=2508 fine=128422 p!14 h!10
-         {} => 0 t=2508 fine=128422 p!14 h!10
-         {} => 0 t=-14088 fine=-721301 p!12 h!10
-         {} => 0 t=1500 fine=76800 p!10 h!12
-         {} => 7
-         {} => 7",
-        reading(&zero_divisor_words(), [0, 415_148, 0], [1, 1, 0]),
-        reading(&with(6, -32_768), [519_888, 1_048_575, 0], [1, 1, 0]),
-        reading(&above, counts, [1, 1, 0]),
-        reading(&with(5, 32_767), [0, 415_148, 0], [1, 1, 0]),
-        reading(&damp(1024), [614_400, 0, 8192], [1, 0, 1]),
-        reading(&k2, counts, [8, 0, 0]),
-        reading(&k2, counts, [0, 0, 4_294_967_295]),
-    ));
-}
-
-/// Calibration blocks of a wrong length give 2, before the codes give 7.
-/// So do data of a wrong length.
-#[test]
-fn lengths() {
-    let one = "00".repeat(26);
-    let two = "00".repeat(7);
-    let data = "00".repeat(8);
-    check(&format!(
-        "cal {one} 00 => 2
-         cal 00 {two} => 2
-         cal {one}00 {two} => 2
-         cal - - => 2
-         comp {one} {two} {data}00 9 0 0 => 2
-         comp {one} {two} - 0 0 0 => 2
-         comp {one} - {data} 0 0 0 => 2
-         comp - {two} {data} 0 0 0 => 2
-         comp {one} {two} {data} 0 0 8 => 7
-         comp {one} {two} {data} 0 0 0 => 0 t!10 p!10 h!10"
     ));
 }

@@ -88,8 +88,13 @@ impl Generator {
         if self.random.percent(10) {
             self.walk_at_limit();
         } else {
-            if self.random.percent(30) {
-                self.say("fresh");
+            match self.random.below(10) {
+                0 | 1 => self.say("fresh"),
+                2 => {
+                    let begun = self.random.below(1_000);
+                    self.say(format!("fresh {begun}"));
+                }
+                _ => {}
             }
             self.walk();
         }

@@ -74,8 +74,8 @@ impl Generator {
     /// Settings are written, and a conversion begins soon.
     fn step_in_sleep(&mut self) {
         match self.random.below(100) {
-            0..=14 => self.one(events::write_settings),
-            15..=74 => self.one(events::write_f4),
+            0..=24 => self.one(events::write_settings),
+            25..=74 => self.one(events::write_f4),
             75 | 76 => self.one(events::write_reset),
             77..=79 => self.one(events::any),
             _ => self.burst(),
