@@ -1,0 +1,229 @@
+//! The commands of the bench's lines, read from a line's bytes.
+
+use crate::words::{
+    buffer_length, decimal, hex_bytes, split, three_decimals, two_digits, Reason, LONGEST_LINE,
+};
+
+/// One command with its words read.
+#[derive(Clone, Debug, PartialEq, Eq)]
+pub enum Command {
+    Calibration {
+        one: Vec<u8>,
+        two: Vec<u8>,
+    },
+    Compensation {
+        one: Vec<u8>,
+        two: Vec<u8>,
+        data: Vec<u8>,
+        codes: [u64; 3],
+    },
+    WaitMaximum([u64; 3]),
+    WaitTypical([u64; 3]),
+    Poll {
+        allowance: u64,
+        status: Vec<u8>,
+    },
+    I2cWrite {
+        address: u8,
+        pairs: Vec<u8>,
+        length: usize,
+    },
+    I2cDecode {
+        bytes: Vec<u8>,
+        length: usize,
+    },
+    I2cRead {
+        address: u8,
+        register: u8,
+        length: usize,
+    },
+    SpiWrite {
+        pairs: Vec<u8>,
+        length: usize,
+    },
+    SpiDecode {
+        bytes: Vec<u8>,
+        length: usize,
+    },
+    SpiRead {
+        register: u8,
+        length: usize,
+    },
+    Fresh(u64),
+    Power,
+    Copied,
+    Wake,
+    Write {
+        register: u8,
+        value: u8,
+    },
+    Finish([u64; 3]),
+    Open(u8),
+    Byte,
+    Close(usize),
+    Ledger,
+}
+
+/// Checks that a line has as many words as its command takes.
+/// The command's own word or words are counted in.
+fn check_count(words: &[&[u8]], count: usize) -> Result<(), Reason> {
+    if words.len() == count {
+        Ok(())
+    } else {
+        Err(Reason::WrongNumberOfWords)
+    }
+}
+
+/// Gives the second word of a command that has one in its name.
+/// A missing one is a wrong number of words.
+fn second_word<'a>(words: &[&'a [u8]]) -> Result<&'a [u8], Reason> {
+    words.get(1).copied().ok_or(Reason::WrongNumberOfWords)
+}
+
+/// Reads a waiting command.
+/// Its second word is max or typ.
+fn read_wait(words: &[&[u8]]) -> Result<Command, Reason> {
+    let command = match second_word(words)? {
+        b"max" => Command::WaitMaximum,
+        b"typ" => Command::WaitTypical,
+        _ => return Err(Reason::UnknownWord),
+    };
+    check_count(words, 5)?;
+    Ok(command(three_decimals(&words[2..])?))
+}
+
+/// Reads an I2C command.
+/// Its second word is write, decode or read.
+fn read_i2c(words: &[&[u8]]) -> Result<Command, Reason> {
+    match second_word(words)? {
+        b"write" => {
+            check_count(words, 5)?;
+            Ok(Command::I2cWrite {
+                address: two_digits(words[2])?,
+                pairs: hex_bytes(words[3])?,
+                length: buffer_length(words[4])?,
+            })
+        }
+        b"decode" => {
+            check_count(words, 4)?;
+            Ok(Command::I2cDecode {
+                bytes: hex_bytes(words[2])?,
+                length: buffer_length(words[3])?,
+            })
+        }
+        b"read" => {
+            check_count(words, 5)?;
+            Ok(Command::I2cRead {
+                address: two_digits(words[2])?,
+                register: two_digits(words[3])?,
+                length: buffer_length(words[4])?,
+            })
+        }
+        _ => Err(Reason::UnknownWord),
+    }
+}
+
+/// Reads an SPI command.
+/// Its second word is write, decode or read.
+fn read_spi(words: &[&[u8]]) -> Result<Command, Reason> {
+    let name = second_word(words)?;
+    if ![&b"write"[..], b"decode", b"read"].contains(&name) {
+        return Err(Reason::UnknownWord);
+    }
+    check_count(words, 4)?;
+    if name == b"read" {
+        return Ok(Command::SpiRead {
+            register: two_digits(words[2])?,
+            length: buffer_length(words[3])?,
+        });
+    }
+    let bytes = hex_bytes(words[2])?;
+    let length = buffer_length(words[3])?;
+    Ok(match name {
+        b"write" => Command::SpiWrite {
+            pairs: bytes,
+            length,
+        },
+        _ => Command::SpiDecode { bytes, length },
+    })
+}
+
+/// Reads a fresh command.
+/// It takes one word after it or none.
+fn read_fresh(words: &[&[u8]]) -> Result<Command, Reason> {
+    match words {
+        [_] => Ok(Command::Fresh(0)),
+        [_, begun] => Ok(Command::Fresh(decimal(begun)?)),
+        _ => Err(Reason::WrongNumberOfWords),
+    }
+}
+
+/// Reads a command of a single word.
+/// More words after it are a wrong number of words.
+fn read_single(words: &[&[u8]], command: Command) -> Result<Command, Reason> {
+    check_count(words, 1)?;
+    Ok(command)
+}
+
+/// Reads a compensation reading.
+/// Codes out of range are read too; they have a number of their own.
+fn read_compensation(words: &[&[u8]]) -> Result<Command, Reason> {
+    check_count(words, 7)?;
+    Ok(Command::Compensation {
+        one: hex_bytes(words[1])?,
+        two: hex_bytes(words[2])?,
+        data: hex_bytes(words[3])?,
+        codes: three_decimals(&words[4..])?,
+    })
+}
+
+/// Reads a command that takes a fixed number of words, or finds its word unknown.
+/// The count is checked first, then the words left to right.
+fn read_fixed(words: &[&[u8]]) -> Result<Command, Reason> {
+    let count = match words[0] {
+        b"open" | b"close" => 2,
+        b"cal" | b"poll" | b"write" => 3,
+        b"finish" => 4,
+        _ => return Err(Reason::UnknownWord),
+    };
+    check_count(words, count)?;
+    Ok(match words[0] {
+        b"open" => Command::Open(two_digits(words[1])?),
+        b"close" => Command::Close(buffer_length(words[1])?),
+        b"cal" => Command::Calibration {
+            one: hex_bytes(words[1])?,
+            two: hex_bytes(words[2])?,
+        },
+        b"poll" => Command::Poll {
+            allowance: decimal(words[1])?,
+            status: hex_bytes(words[2])?,
+        },
+        b"write" => Command::Write {
+            register: two_digits(words[1])?,
+            value: two_digits(words[2])?,
+        },
+        _ => Command::Finish(three_decimals(&words[1..])?),
+    })
+}
+
+/// Reads a line of at least one byte into its command, or gives why it is none.
+/// The length comes first, then the name, the number of words, and the words.
+pub fn read(line: &[u8]) -> Result<Command, Reason> {
+    if line.len() > LONGEST_LINE {
+        return Err(Reason::TooLong);
+    }
+    let words = split(line);
+    match words[0] {
+        b"comp" => read_compensation(&words),
+        b"wait" => read_wait(&words),
+        b"i2c" => read_i2c(&words),
+        b"spi" => read_spi(&words),
+        b"fresh" => read_fresh(&words),
+        b"power" => read_single(&words, Command::Power),
+        b"copied" => read_single(&words, Command::Copied),
+        b"wake" => read_single(&words, Command::Wake),
+        b"byte" => read_single(&words, Command::Byte),
+        b"ledger" => read_single(&words, Command::Ledger),
+        _ => read_fixed(&words),
+    }
+}

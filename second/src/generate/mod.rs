@@ -1,0 +1,161 @@
+//! Seeded cases: the same seed gives the same lines on any machine.
+//!
+//! Lines come in episodes of one subject. Every line is also answered by a bench
+//! of the generator's own, so that walks know which phase they have led to.
+
+mod buses;
+mod chips;
+mod damaged;
+mod events;
+mod readings;
+mod times;
+mod tour;
+mod walks;
+
+use crate::lines::Bench;
+use crate::random::Random;
+use std::collections::VecDeque;
+
+const LINES_TO_TOUR: u64 = 4000;
+
+/// What kind of lines to write.
+#[derive(Clone, Copy, Debug, PartialEq, Eq)]
+pub enum Kind {
+    Everything,
+    Readings,
+    Events,
+}
+
+/// The generator: its source, its own bench, and the lines not yet handed out.
+pub struct Generator {
+    kind: Kind,
+    random: Random,
+    bench: Bench,
+    pending: VecDeque<String>,
+    since_tour: u64,
+}
+
+impl Generator {
+    /// Starts a generator of one kind from a seed.
+    /// Its bench has a fresh machine, as the program's own at the start.
+    pub fn new(kind: Kind, seed: u64) -> Self {
+        Generator {
+            kind,
+            random: Random::new(seed),
+            bench: Bench::default(),
+            pending: VecDeque::new(),
+            since_tour: 0,
+        }
+    }
+
+    /// Gives the next line.
+    /// Where none is left, another episode is written first.
+    pub fn line(&mut self) -> String {
+        loop {
+            if let Some(line) = self.pending.pop_front() {
+                return line;
+            }
+            self.episode();
+        }
+    }
+
+    /// Adds a line to those to be handed out, and answers it on the own bench.
+    /// The answer itself is not needed, only the machine it leads to.
+    fn say(&mut self, line: impl Into<String>) {
+        let line = line.into();
+        self.bench.answer(line.as_bytes(), &mut Vec::new());
+        self.since_tour += 1;
+        self.pending.push_back(line);
+    }
+
+    /// Writes one episode of the generator's kind.
+    /// Of everything, a tour comes round in fixed distances, so that each number is reached.
+    fn episode(&mut self) {
+        match self.kind {
+            Kind::Readings => self.readings(),
+            Kind::Events => self.events(),
+            Kind::Everything if self.since_tour >= LINES_TO_TOUR => {
+                self.since_tour = 0;
+                self.tour();
+            }
+            Kind::Everything => self.anything(),
+        }
+    }
+
+    /// Writes an episode of events only: a walk, now and then one close to number 8.
+    /// Some walks begin in the fresh state, others where the last one ended.
+    fn events(&mut self) {
+        if self.random.percent(10) {
+            self.walk_at_limit();
+        } else {
+            match self.random.below(10) {
+                0 | 1 => self.say("fresh"),
+                2 => {
+                    let begun = self.random.below(1_000);
+                    self.say(format!("fresh {begun}"));
+                }
+                _ => {}
+            }
+            self.walk();
+        }
+    }
+
+    /// Writes an episode of any subject.
+    /// Readings and walks take the most lines.
+    fn anything(&mut self) {
+        match self.random.below(100) {
+            0..=29 => self.readings(),
+            30..=34 => self.calibrations(),
+            35..=46 => self.waits(),
+            47..=58 => self.polls(),
+            59..=78 => self.buses(),
+            79..=89 => self.events(),
+            _ => self.damaged(),
+        }
+    }
+
+    /// Writes a run of lines, each by the same call, of a length between two limits.
+    /// Both limits are included.
+    fn run(&mut self, shortest: i64, longest: i64, line: fn(&mut Random) -> String) {
+        for _ in 0..self.random.between(shortest, longest) {
+            let line = line(&mut self.random);
+            self.say(line);
+        }
+    }
+
+    /// Writes a run of compensation readings.
+    /// It is long enough to be most of what is generated.
+    fn readings(&mut self) {
+        self.run(5, 25, readings::reading);
+    }
+
+    /// Writes a few calibration blocks.
+    /// Some have a wrong length.
+    fn calibrations(&mut self) {
+        self.run(1, 4, readings::calibration);
+    }
+
+    /// Writes a few waiting times.
+    /// Some have a code above 7.
+    fn waits(&mut self) {
+        self.run(1, 6, times::wait);
+    }
+
+    /// Writes a few pollings.
+    /// Some never become ready.
+    fn polls(&mut self) {
+        self.run(1, 6, times::poll);
+    }
+
+    /// Writes a run of I2C and SPI commands.
+    /// Some are damaged, and some buffers too short.
+    fn buses(&mut self) {
+        self.run(3, 12, buses::line);
+    }
+
+    /// Writes a few lines that are, for the most part, none of the commands.
+    /// Those that are commands after all change the machine as they should.
+    fn damaged(&mut self) {
+        self.run(2, 8, damaged::line);
+    }
+}

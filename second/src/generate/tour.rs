@@ -1,0 +1,102 @@
+//! A tour that reaches every number from 0 to 17 and every reason, by its making.
+
+use super::{chips, events, Generator};
+use crate::sheet::{k2_words, k5_words, zero_divisor_words};
+use crate::spelling::reading;
+
+impl Generator {
+    /// Writes the tour, with seeded words and values where they don't matter.
+    /// It ends in the fresh state.
+    pub(super) fn tour(&mut self) {
+        self.tour_of_readings();
+        self.tour_of_buses();
+        self.tour_of_events();
+        self.tour_of_limit();
+        self.tour_of_reasons();
+        self.say("fresh");
+    }
+
+    /// Reaches 2, 7 and 10 to 14, and 17 by polling.
+    /// K1 to K4 are close to all of them.
+    fn tour_of_readings(&mut self) {
+        let counts = [519_888, 415_148, self.random.below(1 << 16)];
+        let real = chips::real(&mut self.random);
+        let mut hot = k5_words();
+        hot.t = [0, 1, self.random.between(-5, 5)];
+        let mut no_divisor = k2_words();
+        no_divisor.p[0] = 0;
+        let mut small_divisor = k2_words();
+        small_divisor.p[0] = self.random.between(50, 200);
+        small_divisor.p[8] = 0;
+        let mut low = k2_words();
+        low.p[6] = self.random.between(-32_768, -32_000);
+        let lines = [
+            reading(&real, counts, [1, 1, 1]),
+            reading(&real, counts, [0, 1, 0]),
+            reading(&real, counts, [1, 1, 8]),
+            reading(&hot, [741_456, 0, 0], [1, 1, 1]),
+            reading(&no_divisor, counts, [1, 1, 0]),
+            reading(&zero_divisor_words(), [0, counts[1], 0], [1, 1, 0]),
+            reading(&small_divisor, counts, [1, 1, 0]),
+            reading(&low, [519_888, 1_048_575, 0], [1, 1, 0]),
+            String::from("comp 00 - 8000 1 1 1"),
+            format!("poll {} 0809", self.random.below(5)),
+        ];
+        for line in lines {
+            self.say(line);
+        }
+    }
+
+    /// Reaches 4, 9, 15 and 16 on both buses.
+    /// Each comes with a lent buffer that stays as it was.
+    fn tour_of_buses(&mut self) {
+        let value = self.random.byte();
+        let lines = [
+            format!("i2c write 75 F4{value:02X} 3"),
+            String::from("i2c write 77 - 3"),
+            format!("i2c write 76 F7{value:02X} 3"),
+            format!("i2c write 76 F4{value:02X} 2"),
+            format!("i2c decode ECF4{value:02X}F2 8"),
+            format!("spi write F4{value:02X} 2"),
+            format!("spi decode F4{value:02X} 2"),
+            format!("spi decode 74{value:02X} 1"),
+        ];
+        for line in lines {
+            self.say(line);
+        }
+    }
+
+    /// Reaches 1 to 7 by events, and a delivery, an overwriting and an abandonment.
+    /// The counts are seeded.
+    fn tour_of_events(&mut self) {
+        self.script("fresh;write F2 01;copied;copied;wake;write F3 00;write E0 00");
+        self.script("write F4 27;write F4 27;write F4 00;open F7;open F7;write F2 00");
+        let finish = events::finish(&mut self.random);
+        self.say(finish);
+        self.script("byte;close 7;close 8;close 8;finish 1048576 0 0;finish 0 0 65536");
+        self.script("finish 0 0 0;open F7;byte;byte;byte;byte;byte;byte;byte;byte;close 8");
+        self.script("ledger;write F4 25;power;ledger");
+    }
+
+    /// Reaches 8 by write, by wake, and by finish with a held F4.
+    /// Each starts close to the last conversion.
+    fn tour_of_limit(&mut self) {
+        self.script("fresh 4294967295;copied;write F4 25;ledger");
+        self.script("fresh 4294967294;copied;write F4 27;finish 1 2 3;wake;ledger");
+        self.script("fresh 4294967294;copied;write F4 25;write F4 25;finish 1 2 3;ledger");
+    }
+
+    /// Reaches each of the five reasons.
+    /// None of these lines changes anything.
+    fn tour_of_reasons(&mut self) {
+        self.script("nothing;byte 1;open G7;poll 1 080;close 257");
+    }
+
+    /// Writes several lines that stand in one text.
+    /// Semicolons part them.
+    fn script(&mut self, lines: &str) {
+        for line in lines.split(';') {
+            self.say(line);
+        }
+    }
+}

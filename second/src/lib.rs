@@ -1,0 +1,23 @@
+//! The second program: the paper on the BME280 put into Rust a second time,
+//! so that two programs written apart can be held against each other.
+
+pub mod answers;
+pub mod bus;
+pub mod calibration;
+pub mod command;
+pub mod compensation;
+pub mod data;
+pub mod generate;
+pub mod history;
+pub mod ledger;
+pub mod lines;
+pub mod machine;
+pub mod numbers;
+pub mod random;
+pub mod record;
+pub mod sheet;
+pub mod spelling;
+pub mod steps;
+pub mod streams;
+pub mod waiting;
+pub mod words;

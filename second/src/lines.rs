@@ -1,0 +1,144 @@
+//! The bench: one machine, fresh at the start, and an answer for each line.
+
+use crate::answers::{self, write, Answer};
+use crate::bus;
+use crate::calibration;
+use crate::command::{read, Command};
+use crate::compensation::compensate;
+use crate::machine::Machine;
+use crate::numbers::Number;
+use crate::waiting::{poll, wait, MAXIMUM, TYPICAL};
+
+const FILLING: u8 = 0xAA;
+
+/// The bench that answers lines. It keeps one machine.
+pub struct Bench {
+    machine: Machine,
+}
+
+/// Lends a buffer of the length asked to a call and writes the call's answer.
+/// The whole buffer is shown after it, so that what was not written is seen.
+fn lend<'a, T>(
+    answer: Answer<'a>,
+    length: usize,
+    call: impl FnOnce(&mut [u8]) -> Result<T, Number>,
+    rest: fn(Answer<'a>, T) -> Answer<'a>,
+) -> Answer<'a> {
+    let mut buffer = vec![FILLING; length];
+    let result = call(&mut buffer);
+    write(answer, result, rest).text(" buf=").bytes(&buffer)
+}
+
+impl Default for Bench {
+    /// Makes the bench with a fresh machine.
+    /// Nothing has been read yet.
+    fn default() -> Self {
+        Bench {
+            machine: Machine::fresh(0),
+        }
+    }
+}
+
+impl Bench {
+    /// Gives the machine that the lines so far have led to.
+    /// The generator of walks looks at it.
+    pub fn machine(&self) -> &Machine {
+        &self.machine
+    }
+
+    /// Answers one line, without its newline, at the end of the output.
+    /// An empty line is passed over.
+    pub fn answer(&mut self, line: &[u8], out: &mut Vec<u8>) {
+        if line.is_empty() {
+            return;
+        }
+        let answer = Answer(out);
+        let answer = match read(line) {
+            Ok(command) => self.obey(command, answer),
+            Err(reason) => answer.text("? ").text(reason.words()),
+        };
+        answer.text("\n");
+    }
+
+    /// Carries out one command and writes its answer.
+    /// Where a buffer is lent, it is made here and shown afterwards.
+    fn obey<'a>(&mut self, command: Command, answer: Answer<'a>) -> Answer<'a> {
+        match command {
+            Command::Calibration { one, two } => {
+                write(answer, calibration::read(&one, &two), answers::calibration)
+            }
+            Command::Compensation {
+                one,
+                two,
+                data,
+                codes,
+            } => {
+                let result = compensate(&one, &two, &data, codes);
+                write(answer, result, answers::reading)
+            }
+            Command::WaitMaximum(codes) => {
+                write(answer, wait(MAXIMUM, codes), answers::microseconds)
+            }
+            Command::WaitTypical(codes) => {
+                write(answer, wait(TYPICAL, codes), answers::microseconds)
+            }
+            Command::Poll { allowance, status } => {
+                answers::polling(answer, poll(allowance, &status))
+            }
+            Command::I2cWrite {
+                address,
+                pairs,
+                length,
+            } => {
+                let call = |buffer: &mut [u8]| bus::i2c_write(address, &pairs, buffer);
+                lend(answer, length, call, answers::length)
+            }
+            Command::I2cDecode { bytes, length } => {
+                let call = |buffer: &mut [u8]| bus::i2c_decode(&bytes, buffer);
+                lend(answer, length, call, answers::decoded)
+            }
+            Command::I2cRead {
+                address,
+                register,
+                length,
+            } => {
+                let call = |buffer: &mut [u8]| bus::i2c_read(address, register, buffer);
+                lend(answer, length, call, answers::length)
+            }
+            Command::SpiWrite { pairs, length } => {
+                let call = |buffer: &mut [u8]| bus::spi_write(&pairs, buffer);
+                lend(answer, length, call, answers::length)
+            }
+            Command::SpiDecode { bytes, length } => {
+                let call = |buffer: &mut [u8]| bus::spi_decode(&bytes, buffer);
+                lend(answer, length, call, answers::length)
+            }
+            Command::SpiRead { register, length } => {
+                let call = |buffer: &mut [u8]| bus::spi_read(register, buffer);
+                lend(answer, length, call, answers::length)
+            }
+            Command::Byte => write(answer, self.machine.byte(), answers::register),
+            Command::Close(length) => {
+                let call = |buffer: &mut [u8]| self.machine.close(buffer);
+                lend(answer, length, call, answers::closing)
+            }
+            Command::Ledger => answers::ledger(answer, self.machine.ledger()),
+            Command::Fresh(begun) => {
+                self.machine = Machine::fresh(begun);
+                write(answer, Ok(()), answers::nothing)
+            }
+            Command::Power => {
+                self.machine.power();
+                write(answer, Ok(()), answers::nothing)
+            }
+            Command::Copied => write(answer, self.machine.copied(), answers::nothing),
+            Command::Wake => write(answer, self.machine.wake(), answers::nothing),
+            Command::Write { register, value } => {
+                let result = self.machine.write(register, value);
+                write(answer, result, answers::nothing)
+            }
+            Command::Finish(counts) => write(answer, self.machine.finish(counts), answers::nothing),
+            Command::Open(address) => write(answer, self.machine.open(address), answers::nothing),
+        }
+    }
+}

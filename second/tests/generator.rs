@@ -1,0 +1,128 @@
+//! The generator: the same seed gives the same lines, and every number is reached.
+
+use second::generate::{Generator, Kind};
+use second::lines::Bench;
+use second::words::LONGEST_LINE;
+use std::collections::BTreeSet;
+
+/// Generates so many lines of a kind.
+/// They are numbered by nothing but the seed.
+fn lines(kind: Kind, count: usize, seed: u64) -> Vec<String> {
+    let mut generator = Generator::new(kind, seed);
+    (0..count).map(|_| generator.line()).collect()
+}
+
+/// Answers all lines on one fresh bench.
+/// Empty lines have no answer.
+fn answers(lines: &[String]) -> String {
+    let mut bench = Bench::default();
+    let mut out = Vec::new();
+    for line in lines {
+        bench.answer(line.as_bytes(), &mut out);
+    }
+    String::from_utf8(out).expect("answers are text")
+}
+
+/// Every number from 0 to 17 and each of the five reasons comes in 20,000 lines.
+/// Number 8 comes by write, by finish and by wake.
+#[test]
+fn every_number_is_reached() {
+    for seed in [0, 1, 2, 3, 4, 1_000_003, u64::MAX] {
+        let lines = lines(Kind::Everything, 20_000, seed);
+        let text = answers(&lines);
+        let mut numbers = BTreeSet::new();
+        let mut reasons = BTreeSet::new();
+        for answer in text.lines() {
+            let first = answer.split(' ').next().unwrap_or_default();
+            numbers.extend(first.parse::<u8>());
+            let channels = answer.split(' ').filter_map(|word| word.split_once('!'));
+            numbers.extend(channels.filter_map(|(_, number)| number.parse::<u8>().ok()));
+            reasons.extend(answer.strip_prefix("? "));
+        }
+        assert_eq!(numbers, (0..=17).collect(), "seed {seed}");
+        assert_eq!(reasons.len(), 5, "seed {seed}");
+        let spoken = lines.iter().filter(|line| !line.is_empty());
+        let refused: BTreeSet<&str> = spoken
+            .zip(text.lines())
+            .filter(|(_, answer)| *answer == "8")
+            .filter_map(|(line, _)| line.split(' ').next())
+            .collect();
+        assert_eq!(
+            refused,
+            BTreeSet::from(["finish", "wake", "write"]),
+            "seed {seed}"
+        );
+    }
+}
+
+/// The same seed gives the same lines; another seed gives others.
+/// A shorter run is the start of a longer one.
+#[test]
+fn seeds_decide() {
+    for kind in [Kind::Everything, Kind::Readings, Kind::Events] {
+        let first = lines(kind, 5_000, 7);
+        assert_eq!(first, lines(kind, 5_000, 7));
+        assert_eq!(first[..1_000], lines(kind, 1_000, 7));
+        assert_ne!(first, lines(kind, 5_000, 8));
+    }
+}
+
+/// The lines of a seed are the same on any machine.
+/// A mix of their bytes is held to a figure written down once; a changed generator changes it.
+#[test]
+fn machines_agree() {
+    let mut mix = 0xCBF2_9CE4_8422_2325_u64;
+    for line in lines(Kind::Everything, 20_000, 1) {
+        for byte in line.bytes().chain([b'\n']) {
+            mix = (mix ^ u64::from(byte)).wrapping_mul(0x0100_0000_01B3);
+        }
+    }
+    assert_eq!(mix, 12_755_676_533_553_810_986);
+}
+
+/// Each kind has its own commands only, and no line holds a newline.
+/// Long lines are rare.
+#[test]
+fn kinds_have_their_commands() {
+    let starts =
+        |line: &String, names: &[&str]| names.contains(&line.split(' ').next().unwrap_or_default());
+    let events = [
+        "fresh", "power", "copied", "wake", "write", "finish", "open", "byte", "close", "ledger",
+    ];
+    assert!(lines(Kind::Readings, 10_000, 3)
+        .iter()
+        .all(|line| starts(line, &["comp"])));
+    let walked = lines(Kind::Events, 20_000, 3);
+    assert!(walked.iter().all(|line| starts(line, &events)));
+    assert!(!answers(&walked).contains('?'));
+    let all = lines(Kind::Everything, 20_000, 3);
+    assert!(all.iter().all(|line| !line.contains('\n')));
+    let long = all.iter().filter(|line| line.len() > LONGEST_LINE).count();
+    assert!((1..200).contains(&long), "{long}");
+    for name in ["cal", "comp", "wait", "poll", "i2c", "spi"]
+        .iter()
+        .chain(&events)
+    {
+        assert!(all.iter().any(|line| starts(line, &[name])), "{name}");
+    }
+}
+
+/// Walks are made of real conversions: most events are done, and all closings come.
+/// Held F4, repeated bursts and number 8 come too.
+#[test]
+fn walks_are_lively() {
+    let walked = lines(Kind::Events, 20_000, 11);
+    let text = answers(&walked);
+    let count = |part: &str| text.lines().filter(|answer| answer.contains(part)).count();
+    let done = text
+        .lines()
+        .filter(|answer| answer.starts_with('0'))
+        .count();
+    assert!(done > 15_000, "{done}");
+    assert!(count("partial") > 200);
+    assert!(count("whole n=0 ") > 50);
+    assert!(count("whole") - count("whole n=0 ") > 300);
+    assert!(count("before=1") > 100);
+    assert!(count("waiting=1") > 20);
+    assert!(text.lines().filter(|answer| *answer == "8").count() > 50);
+}
