@@ -102,7 +102,7 @@ pub fn awaken(m: Machine) -> Machine
 {
     let device = m.device;
     let mut n = m;
-    n.device = fields::with_phase(Phase::Normal, device);
+    n.device = control::enter(Phase::Normal, device);
     n.ledger = ledger::count_begun(true, m.ledger);
     n
 }

@@ -14,24 +14,24 @@ use Rattle.machine.specs.State.{runs, standsBy}
 use Rattle.machine.specs.Counts.{begunIf}
 
 -- mode 0 sleeps; 1 or 2 begins a forced conversion; 3 begins a conversion from sleep, and in standby leaves the standby running
-abbrev pub entered : Phase → ℕ → Phase
-entered p v = cond (eqb (v % 4) 0) Sleep (cond (eqb (v % 4) 3) (cond (standsBy p) Standby Normal) Forced)
+abbrev pub phaseAfter : Phase → ℕ → Phase
+phaseAfter p v = cond (eqb (v % 4) 0) Sleep (cond (eqb (v % 4) 3) (cond (standsBy p) Standby Normal) Forced)
 
 -- F4 v, taking effect in phase p, begins a conversion
 abbrev pub begins : Phase → ℕ → Bool
-begins p v = runs (entered p v)
+begins p v = runs (phaseAfter p v)
 
 -- the oversampling codes of F4, humidity's from F2
 abbrev pub latched : Device → ℕ → Codes
 latched d v = record { temperature = v / 32; pressure = v / 4 % 8; humidity = d .f2 }
 
 -- the device goes on in phase p; a beginning sets nothing else
-abbrev pub inPhase : Phase → Device → Device
-inPhase p d = withPhase p d
+abbrev pub entered : Phase → Device → Device
+entered p d = withPhase p d
 
 -- F4 is set and the codes are latched; none is held any more
 abbrev pub controlled : Device → ℕ → Device
-controlled d v = inPhase (entered (d .phase) v) (withF4 v (withHeld Nothing (withCodes (latched d v) d)))
+controlled d v = entered (phaseAfter (d .phase) v) (withF4 v (withHeld Nothing (withCodes (latched d v) d)))
 
 unfoldable pub effect : Machine → ℕ → Machine
 effect m v = withDevice (controlled (m .device) v) (withLedger (begunIf (begins (m .device .phase) v) (m .ledger)) m)
