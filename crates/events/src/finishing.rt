@@ -7,7 +7,6 @@ use crate::control;
 use crate::fields;
 use crate::ledger;
 use crate::tests;
-use machine::Burst;
 use machine::Conversion;
 use machine::Device;
 use machine::Machine;

@@ -11,8 +11,6 @@ use crate::start;
 use crate::tests;
 use machine::Burst;
 use machine::Closing;
-use machine::Codes;
-use machine::Conversion;
 use machine::Given;
 use machine::Machine;
 

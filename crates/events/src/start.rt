@@ -10,7 +10,6 @@ use machine::Device;
 use machine::Held;
 use machine::Ledger;
 use machine::Machine;
-use machine::Outcome;
 use machine::Phase;
 
 // No conversion.
