@@ -10,9 +10,9 @@ use machine::Held;
 use machine::Machine;
 use machine::Phase;
 
-// The phase that F4's mode leads to.
-pub fn enter(p: Phase, f4: u8) -> Phase
-    ensures { λ r. ⌜ r ≡ control.entered p f4 ⌝ }
+// The phase after F4 has taken effect, by its mode.
+fn phase_after(p: Phase, f4: u8) -> Phase
+    ensures { λ r. ⌜ r ≡ control.phaseAfter p f4 ⌝ }
 {
     if f4 % 4 == 0 {
         return Phase::Sleep;
@@ -31,30 +31,30 @@ pub fn enter(p: Phase, f4: u8) -> Phase
 pub fn begins(p: Phase, f4: u8) -> bool
     ensures { λ r. ⌜ r ≡ control.begins p f4 ⌝ }
 {
-    tests::is_running(enter(p, f4))
+    tests::is_running(phase_after(p, f4))
 }
 
-// F4 is set, the codes are latched, and the device goes on as the mode says.
-pub fn set_control(d: Device, f4: u8) -> Device
+// The device goes on in a phase; a beginning sets nothing else.
+pub fn enter(phase: Phase, d: Device) -> Device
+    ensures { λ r. ⌜ r ≡ control.entered phase d ⌝ }
+{
+    fields::with_phase(phase, d)
+}
+
+// F4 is set, the codes are latched, and none is held any more.
+fn set_control(d: Device, f4: u8) -> Device
     ensures { λ r. ⌜ r ≡ control.controlled d f4 ⌝ }
 {
     let phase = d.phase;
-    let next = enter(phase, f4);
-    let f2 = d.f2;
     let codes = Codes {
         temperature: f4 / 32,
         pressure: f4 / 4 % 8,
-        humidity: f2,
+        humidity: d.f2,
     };
-    Device {
-        phase: next,
-        copying: d.copying,
-        f2: f2,
-        f4: f4,
-        f5: d.f5,
-        held: Held::Nothing,
-        codes: codes,
-    }
+    let mut e = d;
+    e.f4 = f4;
+    e.codes = codes;
+    enter(phase_after(phase, f4), fields::with_held(Held::Nothing, e))
 }
 
 // F4 takes effect, and a conversion that begins is counted.

@@ -3,7 +3,6 @@ ghost use mathlib.Core.Path.{_≡_};
 ghost use mathlib.Core.Bool.{cond};
 ghost use Rattle.machine.specs.Data as bytes;
 use crate::tests;
-use machine::Codes;
 use machine::Device;
 use machine::Machine;
 

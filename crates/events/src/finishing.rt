@@ -7,7 +7,6 @@ use crate::control;
 use crate::fields;
 use crate::ledger;
 use crate::tests;
-use machine::Burst;
 use machine::Conversion;
 use machine::Device;
 use machine::Machine;
@@ -102,7 +101,7 @@ pub fn awaken(m: Machine) -> Machine
 {
     let device = m.device;
     let mut n = m;
-    n.device = fields::with_phase(Phase::Normal, device);
+    n.device = control::enter(Phase::Normal, device);
     n.ledger = ledger::count_begun(true, m.ledger);
     n
 }

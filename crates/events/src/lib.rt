@@ -4,6 +4,8 @@ ghost use mathlib.Core.Path.{_≡_};
 ghost use Rattle.machine.specs.State as state;
 ghost use Rattle.machine.specs.Counts as counts;
 ghost use Rattle.machine.specs.Events as ev;
+use crate::answers::answer;
+use crate::answers::close_empty;
 use machine::Burst;
 use machine::Closing;
 use machine::Given;
@@ -12,14 +14,15 @@ use machine::Machine;
 use machine::Outcome;
 use machine::Tally;
 
+mod answers; // what an event hands back
 mod fields; // one field of an enum type changed
 mod tests; // what is asked of a state
 mod ledger; // the counts
+mod start; // fresh states and reset
 mod control; // F4 takes effect
 mod data; // the bytes that are stored and given
-mod start; // fresh states, and reset
 mod writing; // write, register by register
-mod finishing; // where a finished conversion goes
+mod finishing; // how a conversion finishes, and where it goes
 mod reading; // bursts
 
 // The fresh state.
@@ -47,7 +50,7 @@ pub fn fresh_after(conversions: u32) -> Machine
 pub fn power(m: Machine) -> Outcome
     ensures { λ r. ⌜ r ≡ ev.powered m ⌝ }
 {
-    start::answer(paper::DONE, start::reset(m))
+    answer(paper::DONE, start::reset(m))
 }
 
 // The calibration has been copied.
@@ -56,12 +59,12 @@ pub fn copied(m: Machine) -> Outcome
 {
     let mut device = m.device;
     if !device.copying {
-        return start::answer(paper::WRONG_PHASE, m);
+        return answer(paper::WRONG_PHASE, m);
     }
     device.copying = false;
     let mut n = m;
     n.device = device;
-    start::answer(paper::DONE, n)
+    answer(paper::DONE, n)
 }
 
 // A value is written to a register.
@@ -70,10 +73,10 @@ pub fn write(m: Machine, register: u8, value: u8) -> Outcome
 {
     let burst = m.burst;
     if tests::is_open(burst) {
-        return start::answer(paper::BURST_IS_OPEN, m);
+        return answer(paper::BURST_IS_OPEN, m);
     }
     if !paper::is_writable(register) {
-        return start::answer(paper::ADDRESS_NOT_ALLOWED, m);
+        return answer(paper::ADDRESS_NOT_ALLOWED, m);
     }
     writing::write_register(m, register, value)
 }
@@ -84,16 +87,16 @@ pub fn finish(m: Machine, temperature: u32, pressure: u32, humidity: u32) -> Out
 {
     let device = m.device;
     if !finishing::may_finish(device) {
-        return start::answer(paper::WRONG_PHASE, m);
+        return answer(paper::WRONG_PHASE, m);
     }
     if !data::is_in_range(temperature, pressure, humidity) {
-        return start::answer(paper::OUT_OF_RANGE, m);
+        return answer(paper::OUT_OF_RANGE, m);
     }
     if finishing::is_barred(m) {
-        return start::answer(paper::ALL_BEGUN, m);
+        return answer(paper::ALL_BEGUN, m);
     }
     let bytes = data::store(device, temperature, pressure, humidity);
-    start::answer(paper::DONE, finishing::convert(m, bytes))
+    answer(paper::DONE, finishing::convert(m, bytes))
 }
 
 // The standby ends, and a conversion begins.
@@ -103,12 +106,12 @@ pub fn wake(m: Machine) -> Outcome
     let device = m.device;
     let phase = device.phase;
     if !tests::is_in_standby(phase) {
-        return start::answer(paper::WRONG_PHASE, m);
+        return answer(paper::WRONG_PHASE, m);
     }
     if ledger::is_barred(true, m.ledger) {
-        return start::answer(paper::ALL_BEGUN, m);
+        return answer(paper::ALL_BEGUN, m);
     }
-    start::answer(paper::DONE, finishing::awaken(m))
+    answer(paper::DONE, finishing::awaken(m))
 }
 
 // A burst is opened at an address.
@@ -117,13 +120,13 @@ pub fn open(m: Machine, address: u8) -> Outcome
 {
     let burst = m.burst;
     if tests::is_open(burst) {
-        return start::answer(paper::BURST_IS_OPEN, m);
+        return answer(paper::BURST_IS_OPEN, m);
     }
     if !paper::is_readable(address) {
-        return start::answer(paper::ADDRESS_NOT_ALLOWED, m);
+        return answer(paper::ADDRESS_NOT_ALLOWED, m);
     }
     let at = address as u16;
-    start::answer(paper::DONE, fields::with_burst(Burst::Open(at, at), m))
+    answer(paper::DONE, fields::with_burst(Burst::Open(at, at), m))
 }
 
 // The open burst gives its next register.
@@ -140,10 +143,10 @@ pub fn close(m: Machine, lent: &mut [u8]) -> Closing
 {
     let burst = m.burst;
     if !tests::is_open(burst) {
-        return reading::close_unread(paper::WRONG_PHASE, m);
+        return close_empty(paper::WRONG_PHASE, m);
     }
     if lent.len() != paper::DATA {
-        return reading::close_unread(paper::WRONG_LENGTH, m);
+        return close_empty(paper::WRONG_LENGTH, m);
     }
     if reading::is_whole(burst) {
         let shown = m.shown;
@@ -151,7 +154,7 @@ pub fn close(m: Machine, lent: &mut [u8]) -> Closing
         reading::lay_over(lent, bytes);
         return reading::close_whole(m);
     }
-    reading::close_unread(paper::DONE, reading::end(m))
+    close_empty(paper::DONE, reading::end(m))
 }
 
 // The ledger, and what stands by name.

@@ -11,8 +11,6 @@ use crate::start;
 use crate::tests;
 use machine::Burst;
 use machine::Closing;
-use machine::Codes;
-use machine::Conversion;
 use machine::Given;
 use machine::Machine;
 
@@ -91,25 +89,6 @@ pub fn end(m: Machine) -> Machine
     ensures { λ r. ⌜ r ≡ ev.ended m ⌝ }
 {
     fields::with_burst(Burst::Closed, show_waiting(m))
-}
-
-// The answer that has no number, no codes and no delivery to tell.
-pub fn close_unread(answer: u8, m: Machine) -> Closing
-    ensures { λ r. ⌜ r ≡ ev.closing answer m ⌝ }
-{
-    let codes = Codes {
-        temperature: 0,
-        pressure: 0,
-        humidity: 0,
-    };
-    Closing {
-        answer: answer,
-        whole: false,
-        number: 0,
-        codes: codes,
-        delivered: false,
-        machine: m,
-    }
 }
 
 // The answer of a whole burst, which delivers what it showed.

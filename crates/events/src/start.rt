@@ -1,4 +1,4 @@
-// Fresh states, reset, and the answer of an event.
+// Fresh states and reset.
 ghost use mathlib.Core.Path.{_≡_};
 ghost use Rattle.machine.specs.State as state;
 ghost use Rattle.machine.specs.Events as ev;
@@ -10,18 +10,7 @@ use machine::Device;
 use machine::Held;
 use machine::Ledger;
 use machine::Machine;
-use machine::Outcome;
 use machine::Phase;
-
-// A number and the machine afterwards.
-pub fn answer(number: u8, m: Machine) -> Outcome
-    ensures { λ r. ⌜ r ≡ ev.answered number m ⌝ }
-{
-    Outcome {
-        answer: number,
-        machine: m,
-    }
-}
 
 // No conversion.
 pub fn no_conversion() -> Conversion

@@ -1,6 +1,7 @@
 // Write, register by register.
 ghost use mathlib.Core.Path.{_≡_};
 ghost use Rattle.machine.specs.Events as ev;
+use crate::answers::answer;
 use crate::control;
 use crate::fields;
 use crate::ledger;
@@ -16,9 +17,9 @@ fn write_reset(m: Machine, value: u8) -> Outcome
     ensures { λ r. ⌜ r ≡ ev.writtenReset m value ⌝ }
 {
     if value == paper::RESET_WORD {
-        start::answer(paper::DONE, start::reset(m))
+        answer(paper::DONE, start::reset(m))
     } else {
-        start::answer(paper::IGNORED, m)
+        answer(paper::IGNORED, m)
     }
 }
 
@@ -30,7 +31,7 @@ fn write_f2(m: Machine, value: u8) -> Outcome
     device.f2 = value % 8;
     let mut n = m;
     n.device = device;
-    start::answer(paper::DONE, n)
+    answer(paper::DONE, n)
 }
 
 // F5 is taken in sleep, with bit 1 dropped.
@@ -40,12 +41,12 @@ fn write_f5(m: Machine, value: u8) -> Outcome
     let mut device = m.device;
     let phase = device.phase;
     if !tests::is_asleep(phase) {
-        return start::answer(paper::IGNORED, m);
+        return answer(paper::IGNORED, m);
     }
     device.f5 = value / 4 * 4 + value % 2;
     let mut n = m;
     n.device = device;
-    start::answer(paper::DONE, n)
+    answer(paper::DONE, n)
 }
 
 // F4 during a conversion is held, if none is held.
@@ -55,11 +56,11 @@ fn hold_f4(m: Machine, value: u8) -> Outcome
     let device = m.device;
     let held = device.held;
     if tests::is_held(held) {
-        return start::answer(paper::IGNORED, m);
+        return answer(paper::IGNORED, m);
     }
     let mut n = m;
     n.device = fields::with_held(Held::Byte(value), device);
-    start::answer(paper::DONE, n)
+    answer(paper::DONE, n)
 }
 
 // F4 takes effect, unless it would begin one too many.
@@ -69,9 +70,9 @@ fn take_f4(m: Machine, value: u8) -> Outcome
     let device = m.device;
     let phase = device.phase;
     if ledger::is_barred(control::begins(phase, value), m.ledger) {
-        return start::answer(paper::ALL_BEGUN, m);
+        return answer(paper::ALL_BEGUN, m);
     }
-    start::answer(paper::DONE, control::take_effect(m, value))
+    answer(paper::DONE, control::take_effect(m, value))
 }
 
 // F4 is held during a conversion, and takes effect otherwise.
@@ -99,7 +100,7 @@ fn write_control(m: Machine, register: u8, value: u8) -> Outcome
     ensures { λ r. ⌜ r ≡ ev.writtenControl m register value ⌝ }
 {
     if !may_write(m.device) {
-        return start::answer(paper::STILL_COPYING, m);
+        return answer(paper::STILL_COPYING, m);
     }
     if register == paper::CTRL_HUM {
         return write_f2(m, value);

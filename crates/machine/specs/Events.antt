@@ -19,7 +19,7 @@ use Rattle.machine.specs.declared.Closing.{Closing}
 use Rattle.machine.specs.Fields.{withPhase, withCopying, withF2, withF4, withF5, withHeld, withDevice, withBurst, withShown, withWaiting, withLedger}
 use Rattle.machine.specs.State.{noCodes, noConversion, freshWith, runs, isForced, sleeps, standsBy, isHeld, isOpen, isThere, isUnread}
 use Rattle.machine.specs.Counts.{isBarred, begunIf, deliveredIf, overwrittenIf, abandonedAll}
-use Rattle.machine.specs.Control.{inPhase, begins, effect, heldBegins, heldEffect}
+use Rattle.machine.specs.Control.{entered, begins, effect, heldBegins, heldEffect}
 use Rattle.machine.specs.Data.{inRange, stored, register}
 
 abbrev pub answered : ℕ → Machine → Outcome
@@ -132,7 +132,7 @@ finished m t p h =
 -- ---- wake: from standby begins a conversion; checks 6, 8
 
 abbrev pub awake : Machine → Machine
-awake m = withDevice (inPhase Normal (m .device)) (withLedger (begunIf true (m .ledger)) m)
+awake m = withDevice (entered Normal (m .device)) (withLedger (begunIf true (m .ledger)) m)
 
 abbrev pub woken : Machine → Outcome
 woken m =
@@ -187,8 +187,8 @@ abbrev pub ended : Machine → Machine
 ended m = withBurst Closed (waitingShown m)
 
 -- no number, no codes, not delivered
-abbrev pub closing : ℕ → Machine → Closing
-closing n m = record { answer = n; whole = false; number = 0; codes = noCodes; delivered = false; machine = m }
+abbrev pub emptyClosing : ℕ → Machine → Closing
+emptyClosing n m = record { answer = n; whole = false; number = 0; codes = noCodes; delivered = false; machine = m }
 
 abbrev pub wholeClosing : Machine → Closing
 wholeClosing m = record { answer = done; whole = true; number = m .shown .number; codes = m .shown .codes; delivered = m .shown .delivered; machine = ended (delivering m) }
@@ -196,7 +196,7 @@ wholeClosing m = record { answer = done; whole = true; number = m .shown .number
 -- the answer, and the lent bytes afterwards
 abbrev pub closed : Machine → List ℕ → Closing × List ℕ
 closed m lent =
-    cond (not (isOpen (m .burst))) (closing wrongPhase m, lent)
-    (cond (not (eqb (length lent) reg.dataLength)) (closing wrongLength m, lent)
+    cond (not (isOpen (m .burst))) (emptyClosing wrongPhase m, lent)
+    (cond (not (eqb (length lent) reg.dataLength)) (emptyClosing wrongLength m, lent)
     (cond (isWhole (m .burst)) (wholeClosing m, m .shown .bytes)
-    (closing done (ended m), lent)))
+    (emptyClosing done (ended m), lent)))

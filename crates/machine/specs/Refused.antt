@@ -1,7 +1,7 @@
 -- Demand 1: a refused or ignored event leaves the machine and the lent bytes as they were.
 use Prim.Native.Nat.{ℕ}
 use mathlib.Core.Path.{_≡_, refl}
-use mathlib.Core.List.{List, []}
+use mathlib.Core.List.{List}
 use mathlib.Core.Bool.{true, not}
 use lib.Dec.{eqb, ltb}
 use lib.ListN.{length}

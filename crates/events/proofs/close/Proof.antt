@@ -10,9 +10,9 @@ close-spec =
     (tie.spec
     (λ c κs. tt)
     (λ c κs. tt)
-    (λ c. rw (c .close-unread .ensures) (search cases))
+    (λ c. rw (c .close-empty .ensures) (search cases))
     (λ c κs. tt)
-    (λ c. rw (c .close-unread2 .ensures) (search cases))
+    (λ c. rw (c .close-empty2 .ensures) (search cases))
     (λ c κs. tt)
     (λ c κs. search needs)
     (λ c κs. tt)
@@ -20,4 +20,4 @@ close-spec =
     (λ c. rw (c .close-whole .ensures, c .before .before .before .lay-over .ensures) (search cases))
     (λ c κs. tt)
     (λ c κs. tt)
-    (λ c. rw (c .close-unread3 .ensures, c .before .end .ensures) (search cases)))
+    (λ c. rw (c .close-empty3 .ensures, c .before .end .ensures) (search cases)))

@@ -1,3 +1,4 @@
+-- Each branch has made the test of its case.
 use Rattle.laws.specs.Cases.{cases}
 use Rattle.events.proofs.copied.Statement.{statement}
 use Rattle.events.proofs.copied.Tie as tie

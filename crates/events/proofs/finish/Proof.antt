@@ -1,3 +1,4 @@
+-- Each branch has made the tests of its case; the last one stores, converts and answers as the definition does.
 use Rattle.laws.specs.Cases.{cases}
 use Rattle.events.proofs.finish.Statement.{statement}
 use Rattle.events.proofs.finish.Tie as tie

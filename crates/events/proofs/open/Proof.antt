@@ -1,3 +1,4 @@
+-- Each branch has made the tests of its case.
 use Rattle.laws.specs.Cases.{cases}
 use Rattle.events.proofs.open.Statement.{statement}
 use Rattle.events.proofs.open.Tie as tie

@@ -1,3 +1,4 @@
+-- Nothing held begins nothing; a held byte begins what it begins when it takes effect.
 use borrow.Author.Needs.{needs}
 use Rattle.events.proofs.control.held_begins.Statement.{statement}
 use Rattle.events.proofs.control.held_begins.Tie as tie

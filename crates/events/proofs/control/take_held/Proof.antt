@@ -1,6 +1,7 @@
-use Rattle.machine.specs.Control.{heldEffect}
-use Rattle.laws.specs.Cases.{cases}
+-- By the two cases of what is held.
 use borrow.Author.Needs.{needs}
+use Rattle.laws.specs.Cases.{cases}
+use Rattle.machine.specs.Control.{heldEffect}
 use Rattle.events.proofs.control.take_held.Statement.{statement}
 use Rattle.events.proofs.control.take_held.Tie as tie
 

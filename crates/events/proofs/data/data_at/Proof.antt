@@ -1,5 +1,6 @@
-use Rattle.laws.specs.Cases.{cases}
+-- Each branch has made the tests of its case; past both the index is below 8.
 use borrow.Author.Needs.{needs}
+use Rattle.laws.specs.Cases.{cases}
 use Rattle.events.proofs.data.data_at.Statement.{statement}
 use Rattle.events.proofs.data.data_at.Tie as tie
 

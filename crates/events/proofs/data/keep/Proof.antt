@@ -1,3 +1,4 @@
+-- Each branch has made the test of its case.
 use Rattle.laws.specs.Cases.{cases}
 use Rattle.events.proofs.data.keep.Statement.{statement}
 use Rattle.events.proofs.data.keep.Tie as tie

@@ -20,4 +20,4 @@ add-result c =
     )
 
 pub status-spec : {M : Type 1} → statement M
-status-spec = tie.close (tie.spec (λ c κs. tt) (λ c κs. tt) (λ c κs. tt) add-result (λ c. cc))
+status-spec = tie.close (tie.spec (λ c κs. tt) (λ c κs. tt) (λ c κs. tt) add-result (λ c. rw (c .bit2 .ensures, c .before .bit .ensures, c .before .before .is-running .ensures)))

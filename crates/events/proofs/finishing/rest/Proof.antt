@@ -1,5 +1,6 @@
-use Rattle.laws.specs.Cases.{cases}
+-- Each branch has made the test of its case, and clearing the mode bits makes F4 no larger.
 use borrow.Author.Needs.{needs}
+use Rattle.laws.specs.Cases.{cases}
 use Rattle.events.proofs.finishing.rest.Statement.{statement}
 use Rattle.events.proofs.finishing.rest.Tie as tie
 

@@ -1,3 +1,4 @@
+-- Both counts that grow are sums.
 use borrow.Author.Needs.{needs}
 use Rattle.events.proofs.ledger.count_begun.Statement.{statement}
 use Rattle.events.proofs.ledger.count_begun.Tie as tie

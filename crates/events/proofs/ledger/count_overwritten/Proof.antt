@@ -1,3 +1,4 @@
+-- The count that grows is a sum, and the one that falls one less.
 use borrow.Author.Needs.{needs}
 use Rattle.events.proofs.ledger.count_overwritten.Statement.{statement}
 use Rattle.events.proofs.ledger.count_overwritten.Tie as tie

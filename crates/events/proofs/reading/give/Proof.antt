@@ -1,5 +1,6 @@
-use Rattle.laws.specs.Cases.{cases}
+-- By the two cases of the burst.
 use borrow.Author.Needs.{needs}
+use Rattle.laws.specs.Cases.{cases}
 use Rattle.events.proofs.reading.give.Statement.{statement}
 use Rattle.events.proofs.reading.give.Tie as tie
 

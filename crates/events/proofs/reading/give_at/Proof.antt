@@ -1,5 +1,6 @@
-use Rattle.laws.specs.Cases.{cases}
+-- Each branch has made the test of its case; in the second the address fits a byte, and one more is at most 0x100.
 use borrow.Author.Needs.{needs}
+use Rattle.laws.specs.Cases.{cases}
 use Rattle.events.proofs.reading.give_at.Statement.{statement}
 use Rattle.events.proofs.reading.give_at.Tie as tie
 

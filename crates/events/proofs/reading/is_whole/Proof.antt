@@ -1,3 +1,4 @@
+-- By the two cases of the burst; the code asks both ends at once.
 use borrow.Author.Needs.{needs}
 use Rattle.events.proofs.reading.is_whole.Statement.{statement}
 use Rattle.events.proofs.reading.is_whole.Tie as tie

@@ -1,3 +1,4 @@
+-- Each branch has made the test of its case.
 use Rattle.laws.specs.Cases.{cases}
 use Rattle.machine.specs.Events.{waitingShown}
 use Rattle.events.proofs.reading.show_waiting.Statement.{statement}

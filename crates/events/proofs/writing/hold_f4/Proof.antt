@@ -1,3 +1,4 @@
+-- Each branch has made the test of its case.
 use Rattle.laws.specs.Cases.{cases}
 use Rattle.events.proofs.writing.hold_f4.Statement.{statement}
 use Rattle.events.proofs.writing.hold_f4.Tie as tie

@@ -1,3 +1,4 @@
+-- Each branch has made the test of its case, on what F4 begins.
 use Rattle.laws.specs.Cases.{cases}
 use Rattle.events.proofs.writing.take_f4.Statement.{statement}
 use Rattle.events.proofs.writing.take_f4.Tie as tie

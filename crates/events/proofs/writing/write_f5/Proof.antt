@@ -1,5 +1,6 @@
-use Rattle.laws.specs.Cases.{cases}
+-- Each branch has made the test of its case; without bit 1 the byte is no larger.
 use borrow.Author.Needs.{needs}
+use Rattle.laws.specs.Cases.{cases}
 use Rattle.events.proofs.writing.write_f5.Statement.{statement}
 use Rattle.events.proofs.writing.write_f5.Tie as tie
 
