@@ -1,0 +1,83 @@
+-- The maker's formula of the humidity, line by line, and its answer.
+use Prim.Native.Nat.{ℕ, min}
+use lib.IntN.{ℤ, pos, negsuc, natAbs, _+ℤ_, _-ℤ_, _*ℤ_}
+use Rattle.paper.specs.Numbers as no
+use Rattle.steps.specs.declared.Signed.the-variants.{Bits32}
+use Rattle.steps.specs.declared.Num.{Num}
+use Rattle.steps.specs.declared.Num.the-variants.{Value, Broke}
+use Rattle.steps.specs.Work.{Work, given, num, share, run, _+_, _-_, _*_, _<<_, _>>_, _<<ℤ_, _>>ℤ_}
+use Rattle.calibration.specs.declared.HumidityWords.{HumidityWords}
+use Rattle.formulas.specs.declared.HumidityAnswer.{HumidityAnswer}
+use Rattle.formulas.specs.declared.HumidityAnswer.the-variants.{Known, Missing}
+
+-- v = (((((adc_H << 14) - (H4 << 20) - (H5 * v)) + 16384) >> 15) * (((((((v * H6) >> 10)
+--     * (((v * H3) >> 11) + 32768)) >> 10) + 2097152) * H2 + 8192) >> 14));
+unfoldable pub moistWork : HumidityWords → ℕ → ℤ → Work
+moistWork words count x =
+    let adc = num count in
+    let v = given x in
+    let H2 = given (words .h2) in
+    let H3 = num (words .h3) in
+    let H4 = given (words .h4) in
+    let H5 = given (words .h5) in
+    let H6 = given (words .h6) in
+    ((adc << 14) - (H4 << 20) - H5 * v + num 16384 >> 15)
+    * ((((v * H6 >> 10) * ((v * H3 >> 11) + num 32768) >> 10) + num 2097152) * H2 + num 8192 >> 14)
+
+-- v = (v - (((((v >> 15) * (v >> 15)) >> 7) * H1) >> 4));
+unfoldable pub driedWork : HumidityWords → ℤ → Work
+driedWork words x =
+    let v = given x in
+    let H1 = num (words .h1) in
+    v - (((v >> 15) * (v >> 15) >> 7) * H1 >> 4)
+
+-- v = (v < 0 ? 0 : v);
+-- v = (v > 419430400 ? 419430400 : v);
+abbrev pub clamped : ℤ → ℤ
+clamped (pos n) = pos (min n 419430400)
+clamped (negsuc n) = pos 0
+
+-- v = (t_fine - 76800);
+-- return v >> 12;
+unfoldable pub humidityWork : HumidityWords → ℤ → ℕ → Work
+humidityWork words fine count =
+    share (given fine - num 76800) λ v.
+    share (moistWork words count v) λ v.
+    share (driedWork words v) λ v.
+    given (clamped v) >> 12
+
+-- ---- the answer
+
+abbrev pub answered : Num → HumidityAnswer
+answered (Value z) = Known (natAbs z)
+answered (Broke n) = Missing n
+
+unfoldable pub humidityOf : HumidityWords → ℤ → ℕ → HumidityAnswer
+humidityOf words fine count = answered (run Bits32 (humidityWork words fine count))
+
+-- the paper's number of an answer, and its value where the number is 0
+abbrev pub numberOf : HumidityAnswer → ℕ
+numberOf (Known value) = no.done
+numberOf (Missing n) = n
+
+abbrev pub valueOf : HumidityAnswer → ℕ
+valueOf (Known value) = value
+valueOf (Missing n) = 0
+
+-- ---- the same lines over whole numbers, with no check
+
+unfoldable pub plainHumidity : HumidityWords → ℤ → ℕ → ℤ
+plainHumidity words fine count =
+    let adc = pos count in
+    let H1 = pos (words .h1) in
+    let H2 = words .h2 in
+    let H3 = pos (words .h3) in
+    let H4 = words .h4 in
+    let H5 = words .h5 in
+    let H6 = words .h6 in
+    let v = fine -ℤ pos 76800 in
+    let v =
+    ((adc <<ℤ 14) -ℤ (H4 <<ℤ 20) -ℤ H5 *ℤ v +ℤ pos 16384 >>ℤ 15)
+    *ℤ ((((v *ℤ H6 >>ℤ 10) *ℤ ((v *ℤ H3 >>ℤ 11) +ℤ pos 32768) >>ℤ 10) +ℤ pos 2097152) *ℤ H2 +ℤ pos 8192 >>ℤ 14) in
+    let v = v -ℤ (((v >>ℤ 15) *ℤ (v >>ℤ 15) >>ℤ 7) *ℤ H1 >>ℤ 4) in
+    clamped v >>ℤ 12
