@@ -8,7 +8,7 @@ use lib.IntN.{ℤ}
 use Rattle.steps.specs.declared.Signed.{Signed}
 use Rattle.steps.specs.declared.Num.{Num}
 use Rattle.steps.specs.declared.Num.the-variants.{Value, Broke}
-use Rattle.steps.specs.Step.{fits, kept, onValue, onValues}
+use Rattle.steps.specs.Step.{fits, kept, onValue}
 use Rattle.steps.specs.Work.{Work, given, step₁, step₂, share, test, plain, Need, fit, hold, needs, met, allMet, number, verdict, run}
 
 -- ---- verdicts, one after the other
@@ -35,9 +35,6 @@ known w (d ∷ ds) z P v b = go (met w d) (known w ds z P v b)
 on-value : (w : Signed) (ds : List Need) (z : ℤ) (k : ℤ → Num) → onValue (verdict w ds z) k ≡ onValue (verdict w ds z) (λ x. k z)
 on-value w ds z k = known w ds z (λ a. onValue a k ≡ onValue a (λ x. k z)) refl (λ n. refl)
 
-on-values : (a : Num) (w : Signed) (ds : List Need) (z : ℤ) (k : ℤ → ℤ → Num) → onValues (verdict w ds z) a k ≡ onValue (verdict w ds z) (λ x. onValue a (k z))
-on-values a w ds z k = known w ds z (λ b. onValues b a k ≡ onValue b (λ x. onValue a (k z))) refl (λ n. refl)
-
 last-is : (w : Signed) (d : Need) (z : ℤ) → verdict w (d ∷ []) z ≡ cond (met w d) (Value z) (Broke (number d))
 unfolding verdict
 last-is w d z = refl
@@ -51,7 +48,7 @@ exact w (step₁ f a) =
 exact w (step₂ f a b) =
     let z = f (plain a) (plain b) in
     let d = fit z ∷ [] in
-    rw (exact w a, exact w b, on-values, on-value w (needs b) (plain b), ← last-is w (fit z) z, then-is w (needs b) d (plain b) z, then-is w (needs a) (needs b ++ d) (plain a) z)
+    rw (exact w a, exact w b, on-value w (needs a) (plain a), on-value w (needs b) (plain b), ← last-is w (fit z) z, then-is w (needs b) d (plain b) z, then-is w (needs a) (needs b ++ d) (plain a) z)
 exact w (share a f) =
     rw (exact w a, on-value, exact w (f (plain a)), then-is w (needs a) (needs (f (plain a))) (plain a) (plain (f (plain a))))
 exact w (test p n a) =

@@ -33,8 +33,7 @@ onValue (Value x) f = f x
 onValue (Broke n) f = Broke n
 
 abbrev pub onValues : Num → Num → (ℤ → ℤ → Num) → Num
-onValues (Value x) b f = onValue b (f x)
-onValues (Broke n) b f = Broke n
+onValues a b f = onValue a (λ x. onValue b (λ y. f x y))
 
 -- a value that has to pass a test, which is no step
 abbrev pub tested : (ℤ → Bool) → ℕ → Num → Num
