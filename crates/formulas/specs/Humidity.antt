@@ -1,4 +1,5 @@
--- The maker's formula of the humidity, line by line, and its answer.
+-- The maker's formula of the humidity, line by line as work over signed 32 bits; its answer; and the same lines with no check.
+-- The maker's one variable v_x1_u32r is v here.
 use Prim.Native.Nat.{ℕ, min}
 use lib.IntN.{ℤ, pos, negsuc, natAbs, _+ℤ_, _-ℤ_, _*ℤ_}
 use Rattle.paper.specs.Numbers as no
@@ -10,26 +11,40 @@ use Rattle.calibration.specs.declared.HumidityWords.{HumidityWords}
 use Rattle.formulas.specs.declared.HumidityAnswer.{HumidityAnswer}
 use Rattle.formulas.specs.declared.HumidityAnswer.the-variants.{Known, Missing}
 
--- v = (((((adc_H << 14) - (H4 << 20) - (H5 * v)) + 16384) >> 15) * (((((((v * H6) >> 10)
---     * (((v * H3) >> 11) + 32768)) >> 10) + 2097152) * H2 + 8192) >> 14));
-unfoldable pub moistWork : HumidityWords → ℕ → ℤ → Work
-moistWork words count x =
+-- v = (t_fine - 76800);
+unfoldable pub differenceLine : ℤ → Work
+differenceLine fine = given fine - num 76800
+
+-- v = (((((adc_H << 14) - (H4 << 20) - (H5 * v)) + 16384) >> 15)
+unfoldable pub levelFactor : HumidityWords → ℕ → ℤ → Work
+levelFactor words count v =
     let adc = num count in
-    let v = given x in
-    let H2 = given (words .h2) in
-    let H3 = num (words .h3) in
     let H4 = given (words .h4) in
     let H5 = given (words .h5) in
+    (adc << 14) - (H4 << 20) - H5 * given v + num 16384 >> 15
+
+--     * (((((((v * H6) >> 10) * (((v * H3) >> 11) + 32768)) >> 10) + 2097152) * H2 + 8192) >> 14));
+unfoldable pub gainFactor : HumidityWords → ℤ → Work
+gainFactor words v =
+    let H2 = given (words .h2) in
+    let H3 = num (words .h3) in
     let H6 = given (words .h6) in
-    ((adc << 14) - (H4 << 20) - H5 * v + num 16384 >> 15)
-    * ((((v * H6 >> 10) * ((v * H3 >> 11) + num 32768) >> 10) + num 2097152) * H2 + num 8192 >> 14)
+    (((given v * H6 >> 10) * ((given v * H3 >> 11) + num 32768) >> 10) + num 2097152) * H2 + num 8192 >> 14
+
+unfoldable pub productLine : HumidityWords → ℕ → ℤ → Work
+productLine words count v = levelFactor words count v * gainFactor words v
 
 -- v = (v - (((((v >> 15) * (v >> 15)) >> 7) * H1) >> 4));
-unfoldable pub driedWork : HumidityWords → ℤ → Work
-driedWork words x =
-    let v = given x in
+unfoldable pub correctionLine : HumidityWords → ℤ → Work
+correctionLine words v =
     let H1 = num (words .h1) in
-    v - (((v >> 15) * (v >> 15) >> 7) * H1 >> 4)
+    given v - (((given v >> 15) * (given v >> 15) >> 7) * H1 >> 4)
+
+unfoldable pub humidityLines : HumidityWords → ℤ → ℕ → Work
+humidityLines words fine count =
+    share (differenceLine fine) λ v.
+    share (productLine words count v) λ v.
+    correctionLine words v
 
 -- v = (v < 0 ? 0 : v);
 -- v = (v > 419430400 ? 419430400 : v);
@@ -37,14 +52,12 @@ abbrev pub clamped : ℤ → ℤ
 clamped (pos n) = pos (min n 419430400)
 clamped (negsuc n) = pos 0
 
--- v = (t_fine - 76800);
 -- return v >> 12;
-unfoldable pub humidityWork : HumidityWords → ℤ → ℕ → Work
-humidityWork words fine count =
-    share (given fine - num 76800) λ v.
-    share (moistWork words count v) λ v.
-    share (driedWork words v) λ v.
-    given (clamped v) >> 12
+unfoldable pub lastLine : ℤ → Work
+lastLine v = given (clamped v) >> 12
+
+unfoldable pub humidityFormula : HumidityWords → ℤ → ℕ → Work
+humidityFormula words fine count = share (humidityLines words fine count) λ v. lastLine v
 
 -- ---- the answer
 
@@ -53,9 +66,9 @@ answered (Value z) = Known (natAbs z)
 answered (Broke n) = Missing n
 
 unfoldable pub humidityOf : HumidityWords → ℤ → ℕ → HumidityAnswer
-humidityOf words fine count = answered (run Bits32 (humidityWork words fine count))
+humidityOf words fine count = answered (run Bits32 (humidityFormula words fine count))
 
--- the paper's number of an answer, and its value where the number is 0
+-- the paper's number of an answer, and its value where that is 0
 abbrev pub numberOf : HumidityAnswer → ℕ
 numberOf (Known value) = no.done
 numberOf (Missing n) = n
@@ -64,7 +77,7 @@ abbrev pub valueOf : HumidityAnswer → ℕ
 valueOf (Known value) = value
 valueOf (Missing n) = 0
 
--- ---- the same lines over whole numbers, with no check
+-- ---- the lines over whole numbers, with no check
 
 unfoldable pub plainHumidity : HumidityWords → ℤ → ℕ → ℤ
 plainHumidity words fine count =

@@ -1,4 +1,4 @@
--- The maker's formula of the temperature, line by line, and its answer.
+-- The maker's formula of the temperature, line by line as work over signed 32 bits; its answer; and the same lines with no check.
 use Prim.Native.Nat.{ℕ}
 use lib.IntN.{ℤ, pos, _+ℤ_, _-ℤ_, _*ℤ_}
 use Rattle.paper.specs.Numbers as no
@@ -11,39 +11,49 @@ use Rattle.formulas.specs.declared.TemperatureAnswer.{TemperatureAnswer}
 use Rattle.formulas.specs.declared.TemperatureAnswer.the-variants.{Known, Missing}
 
 -- var1 = ((((adc_T >> 3) - (T1 << 1))) * T2) >> 11;
--- var2 = (((((adc_T >> 4) - T1) * ((adc_T >> 4) - T1)) >> 12) * T3) >> 14;
--- t_fine = var1 + var2;
-unfoldable pub fineWork : TemperatureWords → ℕ → Work
-fineWork words count =
+unfoldable pub slopeLine : TemperatureWords → ℕ → Work
+slopeLine words count =
     let adc = num count in
     let T1 = num (words .t1) in
     let T2 = given (words .t2) in
+    ((adc >> 3) - (T1 << 1)) * T2 >> 11
+
+-- var2 = (((((adc_T >> 4) - T1) * ((adc_T >> 4) - T1)) >> 12) * T3) >> 14;
+unfoldable pub curveLine : TemperatureWords → ℕ → Work
+curveLine words count =
+    let adc = num count in
+    let T1 = num (words .t1) in
     let T3 = given (words .t3) in
-    share (((adc >> 3) - (T1 << 1)) * T2 >> 11) λ var1.
-    share ((((adc >> 4) - T1) * ((adc >> 4) - T1) >> 12) * T3 >> 14) λ var2.
+    (((adc >> 4) - T1) * ((adc >> 4) - T1) >> 12) * T3 >> 14
+
+-- t_fine = var1 + var2;
+unfoldable pub fineLines : TemperatureWords → ℕ → Work
+fineLines words count =
+    share (slopeLine words count) λ var1.
+    share (curveLine words count) λ var2.
     given var1 + given var2
 
 -- T = (t_fine * 5 + 128) >> 8;
-unfoldable pub degreesWork : ℤ → Work
-degreesWork fine = given fine * num 5 + num 128 >> 8
+unfoldable pub degreesLine : ℤ → Work
+degreesLine fine = given fine * num 5 + num 128 >> 8
 
-unfoldable pub temperatureWork : TemperatureWords → ℕ → Work
-temperatureWork words count = share (fineWork words count) λ fine. degreesWork fine
+unfoldable pub temperatureFormula : TemperatureWords → ℕ → Work
+temperatureFormula words count = share (fineLines words count) λ fine. degreesLine fine
 
--- ---- the answer: the fine temperature and the temperature, absent together
+-- ---- the answer: the temperature and the fine temperature, absent together
 
 abbrev pub withFine : ℤ → Num → TemperatureAnswer
 withFine fine (Value value) = Known value fine
 withFine fine (Broke n) = Missing n
 
 abbrev pub fromFine : Num → TemperatureAnswer
-fromFine (Value fine) = withFine fine (run Bits32 (degreesWork fine))
+fromFine (Value fine) = withFine fine (run Bits32 (degreesLine fine))
 fromFine (Broke n) = Missing n
 
 unfoldable pub temperatureOf : TemperatureWords → ℕ → TemperatureAnswer
-temperatureOf words count = fromFine (run Bits32 (fineWork words count))
+temperatureOf words count = fromFine (run Bits32 (fineLines words count))
 
--- the paper's number of an answer, and its values where the number is 0
+-- the paper's number of an answer, and its values where that is 0
 abbrev pub numberOf : TemperatureAnswer → ℕ
 numberOf (Known value fine) = no.done
 numberOf (Missing n) = n
@@ -56,7 +66,7 @@ abbrev pub fineOf : TemperatureAnswer → ℤ
 fineOf (Known value fine) = fine
 fineOf (Missing n) = pos 0
 
--- ---- the same lines over whole numbers, with no check
+-- ---- the lines over whole numbers, with no check
 
 unfoldable pub plainFine : TemperatureWords → ℕ → ℤ
 plainFine words count =
