@@ -8,13 +8,13 @@ use lib.IntN.{ℤ}
 use Rattle.steps.specs.declared.Signed.{Signed}
 use Rattle.steps.specs.declared.Num.{Num}
 use Rattle.steps.specs.declared.Num.the-variants.{Value, Broke}
-use Rattle.steps.specs.Step.{fits, kept, onValue}
+use Rattle.steps.specs.Step.{fits, kept, onValue, onValues}
 use Rattle.steps.specs.Work.{Work, given, step₁, step₂, share, test, plain, Need, fit, hold, needs, met, allMet, number, verdict, run}
 
 -- ---- verdicts, one after the other
 
 then-is : (w : Signed) (cs ds : List Need) (y z : ℤ) → onValue (verdict w cs y) (λ x. verdict w ds z) ≡ verdict w (cs ++ ds) z
-unfolding verdict
+unfolding verdict onValue
 then-is w [] ds y z = refl
 then-is w (c ∷ cs) ds y z = go (met w c) (then-is w cs ds y z)
   where
@@ -33,6 +33,7 @@ known w (d ∷ ds) z P v b = go (met w d) (known w ds z P v b)
     go false h = b (number d)
 
 on-value : (w : Signed) (ds : List Need) (z : ℤ) (k : ℤ → Num) → onValue (verdict w ds z) k ≡ onValue (verdict w ds z) (λ x. k z)
+unfolding onValue
 on-value w ds z k = known w ds z (λ a. onValue a k ≡ onValue a (λ x. k z)) refl (λ n. refl)
 
 last-is : (w : Signed) (d : Need) (z : ℤ) → verdict w (d ∷ []) z ≡ cond (met w d) (Value z) (Broke (number d))
@@ -40,7 +41,7 @@ unfolding verdict
 last-is w d z = refl
 
 pub exact : (w : Signed) (e : Work) → run w e ≡ verdict w (needs e) (plain e)
-unfolding run needs plain
+unfolding run needs plain onValues
 exact w (given z) = unfold verdict in refl
 exact w (step₁ f a) =
     let z = f (plain a) in

@@ -28,11 +28,12 @@ abbrev pub kept : Signed → ℤ → Num
 kept w z = passed (fits w z) no.leftItsType z
 
 -- a refused operand is the answer; of two the left comes first
-abbrev pub onValue : Num → (ℤ → Num) → Num
+unfoldable pub onValue : Num → (ℤ → Num) → Num
 onValue (Value x) f = f x
 onValue (Broke n) f = Broke n
 
-abbrev pub onValues : Num → Num → (ℤ → ℤ → Num) → Num
+unfoldable pub onValues : Num → Num → (ℤ → ℤ → Num) → Num
+unfolding onValue
 onValues a b f = onValue a (λ x. onValue b (λ y. f x y))
 
 -- a value that has to pass a test, which is no step

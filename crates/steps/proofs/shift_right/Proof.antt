@@ -3,17 +3,17 @@ use mathlib.Core.Path.{_∙_}
 use mir.Syntax.{w64}
 use mir.Val.{SFits}
 use borrow.Author.Needs.{needs}
-use Rattle.steps.specs.Step.{shiftedRight}
+use Rattle.steps.specs.Step.{onValue, shiftedRight}
 use Rattle.steps.proofs.Laws.{back}
 use Rattle.steps.proofs.shift_right.Statement.{statement}
 use Rattle.steps.proofs.shift_right.Tie as tie
 
 returns : tie.Need-returns
-unfolding shiftedRight
+unfolding onValue shiftedRight
 returns c = rw (c .enum-told .given .1)
 
 returns-2 : tie.Need-returns-2
-unfolding shiftedRight
+unfolding onValue shiftedRight
 returns-2 c =
     let u = c .before .before .a .given in
     let h : SFits w64 (u .0 .0) = search needs in
