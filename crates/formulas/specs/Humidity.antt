@@ -23,13 +23,18 @@ levelFactor words count v =
     let H5 = given (words .h5) in
     (adc << 14) - (H4 << 20) - H5 * given v + num 16384 >> 15
 
---     * (((((((v * H6) >> 10) * (((v * H3) >> 11) + 32768)) >> 10) + 2097152) * H2 + 8192) >> 14));
+--     * (((((((v * H6) >> 10) * (((v * H3) >> 11) + 32768)) >> 10)
+unfoldable pub bendFactor : HumidityWords → ℤ → Work
+bendFactor words v =
+    let H3 = num (words .h3) in
+    let H6 = given (words .h6) in
+    (given v * H6 >> 10) * ((given v * H3 >> 11) + num 32768) >> 10
+
+--     + 2097152) * H2 + 8192) >> 14));
 unfoldable pub gainFactor : HumidityWords → ℤ → Work
 gainFactor words v =
     let H2 = given (words .h2) in
-    let H3 = num (words .h3) in
-    let H6 = given (words .h6) in
-    (((given v * H6 >> 10) * ((given v * H3 >> 11) + num 32768) >> 10) + num 2097152) * H2 + num 8192 >> 14
+    (bendFactor words v + num 2097152) * H2 + num 8192 >> 14
 
 unfoldable pub productLine : HumidityWords → ℕ → ℤ → Work
 productLine words count v = levelFactor words count v * gainFactor words v

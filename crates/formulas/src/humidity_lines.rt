@@ -3,7 +3,7 @@ ghost use mathlib.Core.Path.{_≡_};
 ghost use lib.IntN.{pos};
 ghost use Rattle.steps.specs.declared.Signed.the-variants.{Bits32};
 ghost use Rattle.steps.specs.Work.{run};
-ghost use Rattle.formulas.specs.Humidity.{differenceLine, levelFactor, gainFactor, productLine, correctionLine, humidityLines, clamped, lastLine, answered};
+ghost use Rattle.formulas.specs.Humidity.{differenceLine, levelFactor, bendFactor, gainFactor, productLine, correctionLine, humidityLines, clamped, lastLine, answered};
 use super::HumidityAnswer;
 use super::given::signed8;
 use super::given::signed16;
@@ -36,24 +36,24 @@ fn level(words: HumidityWords, count: u32, v: i64) -> Num
     shift_right(w, add(w, warm, Num::Value(16384)), 15)
 }
 
+fn bend(words: HumidityWords, v: i64) -> Num
+    ensures { λ r. ⌜ r ≡ run Bits32 (bendFactor words v) ⌝ }
+{
+    let w = Signed::Bits32;
+    let h3 = unsigned(words.h3 as u32);
+    let h6 = signed8(words.h6);
+    let left = shift_right(w, multiply(w, Num::Value(v), h6), 10);
+    let right = shift_right(w, multiply(w, Num::Value(v), h3), 11);
+    let product = multiply(w, left, add(w, right, Num::Value(32768)));
+    shift_right(w, product, 10)
+}
+
 fn gain(words: HumidityWords, v: i64) -> Num
     ensures { λ r. ⌜ r ≡ run Bits32 (gainFactor words v) ⌝ }
 {
     let w = Signed::Bits32;
     let h2 = signed16(words.h2);
-    let h3 = unsigned(words.h3 as u32);
-    let h6 = signed8(words.h6);
-    let left = shift_right(w, multiply(w, Num::Value(v), h6), 10);
-    let right = add(
-        w,
-        shift_right(w, multiply(w, Num::Value(v), h3), 11),
-        Num::Value(32768),
-    );
-    let sum = add(
-        w,
-        shift_right(w, multiply(w, left, right), 10),
-        Num::Value(2097152),
-    );
+    let sum = add(w, bend(words, v), Num::Value(2097152));
     shift_right(w, add(w, multiply(w, sum, h2), Num::Value(8192)), 14)
 }
 

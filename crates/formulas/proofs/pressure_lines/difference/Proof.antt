@@ -1,15 +1,19 @@
-use borrow.Author.Needs.{needs}
+-- `formulas::pressure_lines::difference` meets its contract: its calls are the line's steps.
+use mir.Facts.{toZ-ofZ}
+use Rattle.steps.specs.Step.{subtracted}
+use Rattle.steps.specs.Work.{run}
+use Rattle.formulas.specs.Pressure.{differenceLine}
 use Rattle.formulas.proofs.pressure_lines.difference.Statement.{statement}
 use Rattle.formulas.proofs.pressure_lines.difference.Tie as tie
 
-signed32-requires : tie.Need-signed32-requires
-signed32-requires c κs = search needs
-
-subtract-requires : tie.Need-subtract-requires
-subtract-requires c κs = search needs
-
 returns : tie.Need-returns
-returns c = ?
+unfolding run differenceLine subtracted
+returns c = let s = c .before .before in cc (toZ-ofZ (s .fits .fine))
 
 pub difference-spec : {M : Type 1} → statement M
-difference-spec = tie.close (tie.spec signed32-requires subtract-requires returns)
+difference-spec =
+    tie.close
+    (tie.spec
+    (λ c κs. tt)
+    (λ c κs. tt)
+    returns)

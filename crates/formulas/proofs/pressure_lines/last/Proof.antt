@@ -1,36 +1,29 @@
+-- `formulas::pressure_lines::last` meets its contract: its calls are the line's steps.
+use mir.Syntax.{w16}
+use mir.Val.{SFits}
+use mir.Facts.{toZ-ofZ}
 use borrow.Author.Needs.{needs}
+use Rattle.steps.specs.Step.{added, shiftedLeft, shiftedRight}
+use Rattle.steps.specs.Work.{run}
+use Rattle.formulas.specs.Pressure.{lastLine}
 use Rattle.formulas.proofs.pressure_lines.last.Statement.{statement}
 use Rattle.formulas.proofs.pressure_lines.last.Tie as tie
 
-signed16-requires : tie.Need-signed16-requires
-signed16-requires c κs = search needs
-
-add-requires : tie.Need-add-requires
-add-requires c κs = search needs
-
-add-requires-2 : tie.Need-add-requires-2
-add-requires-2 c κs = search needs
-
-shift-right-requires : tie.Need-shift-right-requires
-shift-right-requires c κs = search needs
-
-shift-left-requires : tie.Need-shift-left-requires
-shift-left-requires c κs = search needs
-
-add-requires-3 : tie.Need-add-requires-3
-add-requires-3 c κs = search needs
+p7-fits : (s : tie.Start) → SFits w16 (s .args .words .p7)
+p7-fits s = search needs
 
 returns : tie.Need-returns
-returns c = ?
+unfolding run lastLine added shiftedLeft shiftedRight
+returns c = let s = c .before .before .before .before .before .before .before in cc (toZ-ofZ (p7-fits s), toZ-ofZ (s .fits .p), toZ-ofZ (s .fits .var1), toZ-ofZ (s .fits .var2))
 
 pub last-spec : {M : Type 1} → statement M
 last-spec =
     tie.close
     (tie.spec
-    signed16-requires
-    add-requires
-    add-requires-2
-    shift-right-requires
-    shift-left-requires
-    add-requires-3
+    (λ c κs. tt)
+    (λ c κs. tt)
+    (λ c κs. tt)
+    (λ c κs. tt)
+    (λ c κs. tt)
+    (λ c κs. tt)
     returns)

@@ -1,52 +1,58 @@
+-- `formulas::pressure_lines::offset` meets its contract: its calls are the lines' steps, each line's variable in its place.
+use mir.Syntax.{w16}
+use mir.Val.{SFits}
+use mir.Facts.{toZ-ofZ}
 use borrow.Author.Needs.{needs}
+use Rattle.steps.specs.Step.{onValues, added, multiplied, shiftedLeft}
+use Rattle.steps.specs.Work.{run}
+use Rattle.formulas.specs.Pressure.{offsetLines}
+use Rattle.formulas.proofs.Laws.{on-given, onward}
 use Rattle.formulas.proofs.pressure_lines.offset.Statement.{statement}
 use Rattle.formulas.proofs.pressure_lines.offset.Tie as tie
 
-signed16-requires : tie.Need-signed16-requires
-signed16-requires c κs = search needs
+p4-fits : (s : tie.Start) → SFits w16 (s .args .words .p4)
+p4-fits s = search needs
 
-signed16-requires-2 : tie.Need-signed16-requires-2
-signed16-requires-2 c κs = search needs
+p5-fits : (s : tie.Start) → SFits w16 (s .args .words .p5)
+p5-fits s = search needs
 
-signed16-requires-3 : tie.Need-signed16-requires-3
-signed16-requires-3 c κs = search needs
-
-multiply-requires : tie.Need-multiply-requires
-multiply-requires c κs = search needs
-
-multiply-requires-2 : tie.Need-multiply-requires-2
-multiply-requires-2 c κs = search needs
-
-multiply-requires-3 : tie.Need-multiply-requires-3
-multiply-requires-3 c κs = search needs
-
-shift-left-requires : tie.Need-shift-left-requires
-shift-left-requires c κs = search needs
-
-add-requires : tie.Need-add-requires
-add-requires c κs = search needs
-
-shift-left-requires-2 : tie.Need-shift-left-requires-2
-shift-left-requires-2 c κs = search needs
-
-add-requires-2 : tie.Need-add-requires-2
-add-requires-2 c κs = search needs
+p6-fits : (s : tie.Start) → SFits w16 (s .args .words .p6)
+p6-fits s = search needs
 
 returns : tie.Need-returns
-returns c = ?
+unfolding run offsetLines onValues added multiplied shiftedLeft
+returns c =
+    let s = c .before .before .before .before .before .before .before .before .before .before .before .before .before in
+    rw (
+      c .add2 .ensures,
+      c .before .shift-left2 .ensures,
+      c .before .before .add .ensures,
+      c .before .before .before .shift-left .ensures,
+      c .before .before .before .before .multiply3 .ensures,
+      c .before .before .before .before .before .multiply2 .ensures,
+      c .before .before .before .before .before .before .multiply .ensures,
+      c .before .before .before .before .before .before .before .signed163 .ensures,
+      c .before .before .before .before .before .before .before .before .before .signed162 .ensures,
+      c .before .before .before .before .before .before .before .before .before .before .before .signed16 .ensures,
+      toZ-ofZ (s .fits .difference),
+      toZ-ofZ (p4-fits s),
+      toZ-ofZ (p5-fits s),
+      toZ-ofZ (p6-fits s),
+    )
+    (simp (on-given, onward))
 
 pub offset-spec : {M : Type 1} → statement M
 offset-spec =
     tie.close
     (tie.spec
-    signed16-requires
-    signed16-requires-2
-    signed16-requires-3
-    multiply-requires
-    multiply-requires-2
-    multiply-requires-3
-    shift-left-requires
-    add-requires
-    shift-left-requires-2
-    add-requires-2
+    (λ c κs. tt)
+    (λ c κs. tt)
+    (λ c κs. tt)
+    (λ c κs. tt)
+    (λ c κs. tt)
+    (λ c κs. tt)
+    (λ c κs. tt)
+    (λ c κs. tt)
+    (λ c κs. tt)
+    (λ c κs. tt)
     returns)

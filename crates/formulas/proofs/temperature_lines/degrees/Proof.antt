@@ -1,18 +1,20 @@
-use borrow.Author.Needs.{needs}
+-- `formulas::temperature_lines::degrees` meets its contract: its calls are the line's steps.
+use mir.Facts.{toZ-ofZ}
+use Rattle.steps.specs.Step.{added, multiplied, shiftedRight}
+use Rattle.steps.specs.Work.{run}
+use Rattle.formulas.specs.Temperature.{degreesLine}
 use Rattle.formulas.proofs.temperature_lines.degrees.Statement.{statement}
 use Rattle.formulas.proofs.temperature_lines.degrees.Tie as tie
 
-multiply-requires : tie.Need-multiply-requires
-multiply-requires c κs = search needs
-
-add-requires : tie.Need-add-requires
-add-requires c κs = search needs
-
-shift-right-requires : tie.Need-shift-right-requires
-shift-right-requires c κs = search needs
-
 returns : tie.Need-returns
-returns c = ?
+unfolding run degreesLine added multiplied shiftedRight
+returns c = let s = c .before .before .before in cc (toZ-ofZ (s .fits .fine))
 
 pub degrees-spec : {M : Type 1} → statement M
-degrees-spec = tie.close (tie.spec multiply-requires add-requires shift-right-requires returns)
+degrees-spec =
+    tie.close
+    (tie.spec
+    (λ c κs. tt)
+    (λ c κs. tt)
+    (λ c κs. tt)
+    returns)

@@ -1,48 +1,32 @@
+-- `formulas::temperature_lines::slope` meets its contract: its calls are the line's steps.
+use mir.Syntax.{w16}
+use mir.Val.{SFits}
+use mir.Facts.{toZ-ofZ}
 use borrow.Author.Needs.{needs}
+use Rattle.steps.specs.Step.{subtracted, multiplied, shiftedLeft, shiftedRight}
+use Rattle.steps.specs.Work.{run}
+use Rattle.formulas.specs.Temperature.{slopeLine}
 use Rattle.formulas.proofs.temperature_lines.slope.Statement.{statement}
 use Rattle.formulas.proofs.temperature_lines.slope.Tie as tie
 
-unsigned-requires : tie.Need-unsigned-requires
-unsigned-requires c κs = search needs
-
-cast-unsigned : tie.Need-cast-unsigned
-cast-unsigned c = search needs
-
-unsigned-requires-2 : tie.Need-unsigned-requires-2
-unsigned-requires-2 c κs = search needs
-
-signed16-requires : tie.Need-signed16-requires
-signed16-requires c κs = search needs
-
-shift-right-requires : tie.Need-shift-right-requires
-shift-right-requires c κs = search needs
-
-shift-left-requires : tie.Need-shift-left-requires
-shift-left-requires c κs = search needs
-
-subtract-requires : tie.Need-subtract-requires
-subtract-requires c κs = search needs
-
-multiply-requires : tie.Need-multiply-requires
-multiply-requires c κs = search needs
-
-shift-right-requires-2 : tie.Need-shift-right-requires-2
-shift-right-requires-2 c κs = search needs
+t2-fits : (s : tie.Start) → SFits w16 (s .args .words .t2)
+t2-fits s = search needs
 
 returns : tie.Need-returns
-returns c = ?
+unfolding run slopeLine subtracted multiplied shiftedLeft shiftedRight
+returns c = let s = c .before .before .before .before .before .before .before .before .before .before in cc (toZ-ofZ (t2-fits s))
 
 pub slope-spec : {M : Type 1} → statement M
 slope-spec =
     tie.close
     (tie.spec
-    unsigned-requires
-    cast-unsigned
-    unsigned-requires-2
-    signed16-requires
-    shift-right-requires
-    shift-left-requires
-    subtract-requires
-    multiply-requires
-    shift-right-requires-2
+    (λ c κs. tt)
+    (λ c. search needs)
+    (λ c κs. tt)
+    (λ c κs. tt)
+    (λ c κs. tt)
+    (λ c κs. tt)
+    (λ c κs. tt)
+    (λ c κs. tt)
+    (λ c κs. tt)
     returns)
