@@ -69,15 +69,20 @@ lastLine words p var1 var2 =
     let P7 = given (words .p7) in
     (given p + given var1 + given var2 >> 8) + (P7 << 4)
 
+-- the lines after the division
+unfoldable pub refinedLines : PressureWords → ℤ → Work
+refinedLines words p =
+    share (curveLine words p) λ var1.
+    share (slopeLine words p) λ var2.
+    lastLine words p var1 var2
+
 unfoldable pub pressureLines : PressureWords → ℤ → ℕ → Work
 pressureLines words fine count =
     share (differenceLine fine) λ difference.
     share (offsetLines words difference) λ var2.
     share (divisorLines words difference) λ var1.
     share (quotientLines count var2 var1) λ p.
-    share (curveLine words p) λ var1.
-    share (slopeLine words p) λ var2.
-    lastLine words p var1 var2
+    refinedLines words p
 
 -- from 0 to 4294967295, after all steps
 abbrev pub isPressure : ℤ → Bool

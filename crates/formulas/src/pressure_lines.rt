@@ -4,7 +4,7 @@ ghost use Rattle.paper.specs.Numbers as no;
 ghost use Rattle.steps.specs.declared.Signed.the-variants.{Bits64};
 ghost use Rattle.steps.specs.Step.{passed};
 ghost use Rattle.steps.specs.Work.{run};
-ghost use Rattle.formulas.specs.Pressure.{differenceLine, offsetLines, divisorLines, quotientLines, curveLine, slopeLine, lastLine, pressureLines, isPressure, answered};
+ghost use Rattle.formulas.specs.Pressure.{differenceLine, offsetLines, divisorLines, quotientLines, curveLine, slopeLine, lastLine, refinedLines, pressureLines, isPressure, answered};
 use super::PressureAnswer;
 use super::given::signed16;
 use super::given::signed32;
@@ -87,6 +87,21 @@ fn last(words: PressureWords, p: i64, var1: i64, var2: i64) -> Num
     add(w, shift_right(w, sum, 8), shift_left(w, p7, 4))
 }
 
+// The lines after the division.
+fn refine(words: PressureWords, p: i64) -> Num
+    ensures { λ r. ⌜ r ≡ run Bits64 (refinedLines words p) ⌝ }
+{
+    let a = curve(words, p);
+    let Num::Value(var1) = a else {
+        return a;
+    };
+    let b = slope(words, p);
+    let Num::Value(var2) = b else {
+        return b;
+    };
+    last(words, p, var1, var2)
+}
+
 // The lines one after the other: the first refusal decides.
 pub fn pressure(words: PressureWords, fine: i32, count: u32) -> Num
     ensures { λ r. ⌜ r ≡ run Bits64 (pressureLines words fine count) ⌝ }
@@ -107,15 +122,7 @@ pub fn pressure(words: PressureWords, fine: i32, count: u32) -> Num
     let Num::Value(p) = e else {
         return e;
     };
-    let f = curve(words, p);
-    let Num::Value(bend) = f else {
-        return f;
-    };
-    let g = slope(words, p);
-    let Num::Value(tilt) = g else {
-        return g;
-    };
-    last(words, p, bend, tilt)
+    refine(words, p)
 }
 
 // A pressure that an unsigned word of 32 bits holds.
