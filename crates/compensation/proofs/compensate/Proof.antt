@@ -1,0 +1,12 @@
+-- `compensation::compensate` meets its contract: the blocks give their words, and these the reading. Assumes nothing.
+use borrow.Author.Needs.{needs}
+use Rattle.compensation.specs.Compensation.{compensated}
+use Rattle.compensation.proofs.compensate.Statement.{statement}
+use Rattle.compensation.proofs.compensate.Tie as tie
+
+returns : tie.Need-returns
+unfolding compensated
+returns c = rw (c .compensate-with .ensures, c .before .calibrate .ensures)
+
+pub compensate-spec : {M : Type 1} → statement M
+compensate-spec = tie.close (tie.spec (λ c κs. search needs) (λ c κs. search needs) returns)

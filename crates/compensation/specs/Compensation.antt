@@ -1,0 +1,83 @@
+-- Compensation: both blocks, the eight bytes 0xF7 to 0xFE, and three oversampling codes. Codes, channels and counts come as temperature, pressure, humidity.
+use Prim.Native.Nat.{ℕ}
+use mathlib.Core.Bool.{Bool, cond, _&&_}
+use mathlib.Core.List.{List}
+use lib.Dec.{leb, eqb}
+use lib.ListN.{length}
+use lib.IntN.{ℤ}
+use Rattle.paper.specs.Numbers as no
+use Rattle.paper.specs.Registers as reg
+use Rattle.calibration.specs.declared.TemperatureWords.{TemperatureWords}
+use Rattle.calibration.specs.declared.PressureWords.{PressureWords}
+use Rattle.calibration.specs.declared.HumidityWords.{HumidityWords}
+use Rattle.calibration.specs.declared.Words.{Words}
+use Rattle.calibration.specs.declared.Calibration.{Calibration}
+use Rattle.calibration.specs.declared.Calibration.the-variants as blocks
+use Rattle.calibration.specs.Calibration.{calibrated}
+use Rattle.formulas.specs.declared.TemperatureAnswer.{TemperatureAnswer}
+use Rattle.formulas.specs.declared.TemperatureAnswer.the-variants as heat
+use Rattle.formulas.specs.declared.PressureAnswer.{PressureAnswer}
+use Rattle.formulas.specs.declared.PressureAnswer.the-variants as press
+use Rattle.formulas.specs.declared.HumidityAnswer.{HumidityAnswer}
+use Rattle.formulas.specs.declared.HumidityAnswer.the-variants as damp
+use Rattle.formulas.specs.Temperature.{temperatureOf}
+use Rattle.formulas.specs.Pressure.{pressureOf}
+use Rattle.formulas.specs.Humidity.{humidityOf}
+use Rattle.compensation.specs.declared.Counts.{Counts}
+use Rattle.compensation.specs.declared.Reading.{Reading}
+use Rattle.compensation.specs.declared.Answer.{Answer}
+use Rattle.compensation.specs.declared.Answer.the-variants.{Done, Refused}
+use Rattle.compensation.specs.Counts.{countsOf}
+
+-- ---- the channels: code 0 means skipped
+
+abbrev pub temperatureChannel : ℕ → TemperatureWords → ℕ → TemperatureAnswer
+temperatureChannel code words count = cond (eqb code 0) (heat.Missing no.skipped) (temperatureOf words count)
+
+-- pressure and humidity want the fine temperature
+abbrev pub pressureAt : TemperatureAnswer → PressureWords → ℕ → PressureAnswer
+pressureAt (heat.Missing n) words count = press.Missing no.noTemperature
+pressureAt (heat.Known value fine) words count = pressureOf words fine count
+
+abbrev pub pressureChannel : ℕ → TemperatureAnswer → PressureWords → ℕ → PressureAnswer
+pressureChannel code t words count = cond (eqb code 0) (press.Missing no.skipped) (pressureAt t words count)
+
+abbrev pub humidityAt : TemperatureAnswer → HumidityWords → ℕ → HumidityAnswer
+humidityAt (heat.Missing n) words count = damp.Missing no.noTemperature
+humidityAt (heat.Known value fine) words count = humidityOf words fine count
+
+abbrev pub humidityChannel : ℕ → TemperatureAnswer → HumidityWords → ℕ → HumidityAnswer
+humidityChannel code t words count = cond (eqb code 0) (damp.Missing no.skipped) (humidityAt t words count)
+
+abbrev pub reading : Words → Counts → ℕ → ℕ → ℕ → Reading
+reading words counts t p h =
+    let temperature = temperatureChannel t (words .temperature) (counts .temperature) in
+    record {
+      temperature = temperature;
+      pressure = pressureChannel p temperature (words .pressure) (counts .pressure);
+      humidity = humidityChannel h temperature (words .humidity) (counts .humidity);
+    }
+
+-- ---- length is checked first (2), then codes (7)
+
+abbrev pub isCode : ℕ → Bool
+isCode code = leb code reg.lastCode
+
+abbrev pub areCodes : ℕ → ℕ → ℕ → Bool
+areCodes t p h = isCode t && (isCode p && isCode h)
+
+unfoldable pub compensatedWords : Words → List ℕ → ℕ → ℕ → ℕ → Answer
+compensatedWords words bytes t p h =
+    cond (areCodes t p h)
+    (Done (reading words (countsOf bytes) t p h))
+    (Refused no.outOfRange)
+
+abbrev pub compensatedWith : Calibration → List ℕ → ℕ → ℕ → ℕ → Answer
+compensatedWith (blocks.Refused n) bytes t p h = Refused n
+compensatedWith (blocks.Known words) bytes t p h =
+    cond (eqb (length bytes) reg.dataLength)
+    (compensatedWords words bytes t p h)
+    (Refused no.wrongLength)
+
+unfoldable pub compensated : List ℕ → List ℕ → List ℕ → ℕ → ℕ → ℕ → Answer
+compensated one two bytes t p h = compensatedWith (calibrated one two) bytes t p h

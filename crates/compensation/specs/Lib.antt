@@ -1,0 +1,4 @@
+-- Compensation: from the blocks, the eight bytes and the codes to the three channels.
+pub mod Counts
+pub mod Compensation
+pub mod Missing

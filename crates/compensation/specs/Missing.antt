@@ -1,0 +1,61 @@
+-- What stands in a channel's place where it has no value: theorems on the definitions.
+use Prim.Native.Nat.{ℕ}
+use mathlib.Core.Path.{_≡_, refl}
+use lib.IntN.{ℤ}
+use borrow.Author.Tests.{ne-eqb}
+use Rattle.paper.specs.Numbers as no
+use Rattle.paper.specs.Registers as reg
+use Rattle.calibration.specs.declared.Words.{Words}
+use Rattle.formulas.specs.declared.TemperatureAnswer.the-variants as heat
+use Rattle.formulas.specs.declared.PressureAnswer.the-variants as press
+use Rattle.formulas.specs.declared.HumidityAnswer.the-variants as damp
+use Rattle.formulas.specs.Temperature.{temperatureOf}
+use Rattle.formulas.specs.Pressure.{pressureOf}
+use Rattle.formulas.specs.Humidity.{humidityOf}
+use Rattle.compensation.specs.declared.Counts.{Counts}
+use Rattle.compensation.specs.Compensation.{reading}
+use Rattle.compensation.specs.Counts.{countsOf}
+
+-- ---- a skipped channel is 10, whatever the bytes
+
+pub skipped-temperature : (words : Words) (counts : Counts) (p h : ℕ) → reading words counts 0 p h .temperature ≡ heat.Missing no.skipped
+skipped-temperature words counts p h = refl
+
+pub skipped-pressure : (words : Words) (counts : Counts) (t h : ℕ) → reading words counts t 0 h .pressure ≡ press.Missing no.skipped
+skipped-pressure words counts t h = refl
+
+pub skipped-humidity : (words : Words) (counts : Counts) (t p : ℕ) → reading words counts t p 0 .humidity ≡ damp.Missing no.skipped
+skipped-humidity words counts t p = refl
+
+-- ---- in an enabled channel every count is a count like any other
+
+pub enabled-temperature : (words : Words) (counts : Counts) (t p h : ℕ) → (t ≡ 0 → ⊥) → reading words counts t p h .temperature ≡ temperatureOf (words .temperature) (counts .temperature)
+enabled-temperature words counts t p h on = rw (ne-eqb t 0 on)
+
+module _ (words : Words) (counts : Counts) (t p h : ℕ) {value fine : ℤ} (known : reading words counts t p h .temperature ≡ heat.Known value fine) where
+  pub enabled-pressure : (p ≡ 0 → ⊥) → reading words counts t p h .pressure ≡ pressureOf (words .pressure) fine (counts .pressure)
+  enabled-pressure on = rw (ne-eqb p 0 on, known)
+
+  pub enabled-humidity : (h ≡ 0 → ⊥) → reading words counts t p h .humidity ≡ humidityOf (words .humidity) fine (counts .humidity)
+  enabled-humidity on = rw (ne-eqb h 0 on, known)
+
+-- and so are those that a skipped channel stores
+pub stored-by-skipped : countsOf reg.freshBytes ≡ record { temperature = 0x80000; pressure = 0x80000; humidity = 0x8000 }
+stored-by-skipped = refl
+
+pub enabled-at-80000 : (words : Words) (t p h : ℕ) → (t ≡ 0 → ⊥) → reading words (countsOf reg.freshBytes) t p h .temperature ≡ temperatureOf (words .temperature) 0x80000
+enabled-at-80000 words t p h on = enabled-temperature words (countsOf reg.freshBytes) t p h on
+
+-- ---- where temperature is missing, every other enabled channel is 11
+
+module _ (words : Words) (counts : Counts) (t p h : ℕ) {n : ℕ} (missing : reading words counts t p h .temperature ≡ heat.Missing n) where
+  pub pressure-without : (p ≡ 0 → ⊥) → reading words counts t p h .pressure ≡ press.Missing no.noTemperature
+  pressure-without on = rw (ne-eqb p 0 on, missing)
+
+  pub humidity-without : (h ≡ 0 → ⊥) → reading words counts t p h .humidity ≡ damp.Missing no.noTemperature
+  humidity-without on = rw (ne-eqb h 0 on, missing)
+
+-- ---- K14: codes 0, 1, 0 give 10, 11, 10
+
+pub k14 : (words : Words) (counts : Counts) → reading words counts 0 1 0 ≡ record { temperature = heat.Missing 10; pressure = press.Missing 11; humidity = damp.Missing 10 }
+k14 words counts = refl

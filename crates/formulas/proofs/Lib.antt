@@ -1,0 +1,2 @@
+-- What more than one proof of the formulas cites.
+pub mod Laws

@@ -1,0 +1,33 @@
+-- `formulas::humidity_lines::bend` meets its contract: its calls are the line's steps.
+use mir.Syntax.{w8}
+use mir.Val.{SFits}
+use mir.Facts.{toZ-ofZ}
+use borrow.Author.Needs.{needs}
+use Rattle.steps.specs.Step.{added, multiplied, shiftedRight}
+use Rattle.steps.specs.Work.{run}
+use Rattle.formulas.specs.Humidity.{bendFactor}
+use Rattle.formulas.proofs.humidity_lines.bend.Statement.{statement}
+use Rattle.formulas.proofs.humidity_lines.bend.Tie as tie
+
+h6-fits : (s : tie.Start) → SFits w8 (s .args .words .h6)
+h6-fits s = search needs
+
+returns : tie.Need-returns
+unfolding run bendFactor added multiplied shiftedRight
+returns c = let s = c .before .before .before .before .before .before .before .before .before .before .before in cc (toZ-ofZ (h6-fits s), toZ-ofZ (s .fits .v))
+
+pub bend-spec : {M : Type 1} → statement M
+bend-spec =
+    tie.close
+    (tie.spec
+    (λ c. search needs)
+    (λ c κs. tt)
+    (λ c κs. tt)
+    (λ c κs. tt)
+    (λ c κs. tt)
+    (λ c κs. tt)
+    (λ c κs. tt)
+    (λ c κs. tt)
+    (λ c κs. tt)
+    (λ c κs. tt)
+    returns)

@@ -1,0 +1,26 @@
+-- `formulas::humidity_lines::correction` meets its contract: its calls are the line's steps.
+use mir.Facts.{toZ-ofZ}
+use borrow.Author.Needs.{needs}
+use Rattle.steps.specs.Step.{subtracted, multiplied, shiftedRight}
+use Rattle.steps.specs.Work.{run}
+use Rattle.formulas.specs.Humidity.{correctionLine}
+use Rattle.formulas.proofs.humidity_lines.correction.Statement.{statement}
+use Rattle.formulas.proofs.humidity_lines.correction.Tie as tie
+
+returns : tie.Need-returns
+unfolding run correctionLine subtracted multiplied shiftedRight
+returns c = let s = c .before .before .before .before .before .before .before .before in cc (toZ-ofZ (s .fits .v))
+
+pub correction-spec : {M : Type 1} → statement M
+correction-spec =
+    tie.close
+    (tie.spec
+    (λ c. search needs)
+    (λ c κs. tt)
+    (λ c κs. tt)
+    (λ c κs. tt)
+    (λ c κs. tt)
+    (λ c κs. tt)
+    (λ c κs. tt)
+    (λ c κs. tt)
+    returns)

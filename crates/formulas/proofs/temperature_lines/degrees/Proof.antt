@@ -1,0 +1,20 @@
+-- `formulas::temperature_lines::degrees` meets its contract: its calls are the line's steps.
+use mir.Facts.{toZ-ofZ}
+use Rattle.steps.specs.Step.{added, multiplied, shiftedRight}
+use Rattle.steps.specs.Work.{run}
+use Rattle.formulas.specs.Temperature.{degreesLine}
+use Rattle.formulas.proofs.temperature_lines.degrees.Statement.{statement}
+use Rattle.formulas.proofs.temperature_lines.degrees.Tie as tie
+
+returns : tie.Need-returns
+unfolding run degreesLine added multiplied shiftedRight
+returns c = let s = c .before .before .before in cc (toZ-ofZ (s .fits .fine))
+
+pub degrees-spec : {M : Type 1} → statement M
+degrees-spec =
+    tie.close
+    (tie.spec
+    (λ c κs. tt)
+    (λ c κs. tt)
+    (λ c κs. tt)
+    returns)

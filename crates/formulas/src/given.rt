@@ -1,0 +1,28 @@
+// The chip's words, counts and fine temperatures as the numbers that a formula is given.
+ghost use mathlib.Core.Path.{_≡_};
+ghost use lib.IntN.{pos};
+use steps::Num;
+
+pub fn unsigned(x: u32) -> Num
+    ensures { λ r. ⌜ r ≡ Num.Value (pos x) ⌝ }
+{
+    Num::Value(x as i64)
+}
+
+pub fn signed8(x: i8) -> Num
+    ensures { λ r. ⌜ r ≡ Num.Value x ⌝ }
+{
+    Num::Value(x as i64)
+}
+
+pub fn signed16(x: i16) -> Num
+    ensures { λ r. ⌜ r ≡ Num.Value x ⌝ }
+{
+    Num::Value(x as i64)
+}
+
+pub fn signed32(x: i32) -> Num
+    ensures { λ r. ⌜ r ≡ Num.Value x ⌝ }
+{
+    Num::Value(x as i64)
+}
