@@ -2,3 +2,6 @@
 pub mod Temperature
 pub mod Pressure
 pub mod Humidity
+pub mod Listed
+pub mod Against
+pub mod Exact
