@@ -80,9 +80,9 @@ module _ (words : TemperatureWords) (count : ℕ) where
 -- ---- pressure
 
 -- an answer that is known is a value without its sign
-answered-known : (a : Num) (value : ℕ) (z : ℤ) → p.answered a ≡ pressure.Known value → (a ≡ Value z → natAbs z ≡ value)
-answered-known (Value x) value z e h = let k : x ≡ z = cc in let l : natAbs x ≡ value = cc in ap natAbs (sym k) ∙ l
-answered-known (Broke n) value z e h = cc
+pressure-known : (P : Type 0) (a : Num) (value : ℕ) → p.answered a ≡ pressure.Known value → ((z : ℤ) → a ≡ Value z → natAbs z ≡ value → P) → P
+pressure-known P (Value z) value e k = k z refl (cc)
+pressure-known P (Broke n) value e k = k (pos 0) (cc) (cc)
 
 in-range-is : (z : ℤ) → p.isPressure z ≡ true → pos (natAbs z) ≡ z
 in-range-is (pos n) e = refl
@@ -101,3 +101,75 @@ module _ (words : PressureWords) (fine : ℤ) (count : ℕ) where
   pressure-tests : testsHold (needs (p.pressureFormula words fine count)) ≡ (isNonzero (p.plainDivisor words fine) && (isNonzero (p.plainDivisor words fine) && (p.isPressure (p.plainPressure words fine count) && true)))
   unfolding testsHold needs plain p.differenceLine p.offsetLines p.divisorLines p.quotientLines p.curveLine p.slopeLine p.lastLine p.refinedLines p.pressureLines p.pressureFormula p.plainDivisor p.plainPressure
   pressure-tests = refl
+
+  pressure-listed : allMet Bits64 (needs (p.pressureFormula words fine count)) ≡ (allFit Bits64 (pressureSteps words fine count) && (isNonzero (p.plainDivisor words fine) && (isNonzero (p.plainDivisor words fine) && (p.isPressure (p.plainPressure words fine count) && true))))
+  pressure-listed = met-is Bits64 (needs (p.pressureFormula words fine count)) ∙ rw (pressure-steps, pressure-tests)
+
+  pressure-is : p.pressureOf words fine count ≡ p.answered (run Bits64 (p.pressureFormula words fine count))
+  unfolding p.pressureOf
+  pressure-is = refl
+
+  pub pressure-only : (value : ℕ) → p.pressureOf words fine count ≡ pressure.Known value → (pos value ≡ p.plainPressure words fine count) × (allFit Bits64 (pressureSteps words fine count) ≡ true) × (isNonzero (p.plainDivisor words fine) ≡ true) × (p.isPressure (p.plainPressure words fine count) ≡ true)
+  pressure-only value e = pressure-known _ (run Bits64 (p.pressureFormula words fine count)) value (sym pressure-is ∙ e) parts
+    where
+      parts : (z : ℤ) → run Bits64 (p.pressureFormula words fine count) ≡ Value z → natAbs z ≡ value → (pos value ≡ p.plainPressure words fine count) × (allFit Bits64 (pressureSteps words fine count) ≡ true) × (isNonzero (p.plainDivisor words fine) ≡ true) × (p.isPressure (p.plainPressure words fine count) ≡ true)
+      parts z h k =
+          let q = only-then Bits64 (p.pressureFormula words fine count) z h in
+          let same = q .1 ∙ pressure-plain in
+          let a = and-parts (allFit Bits64 (pressureSteps words fine count)) _ (sym pressure-listed ∙ q .0) in
+          let b = and-parts (isNonzero (p.plainDivisor words fine)) _ (a .1) in
+          let d = and-parts (isNonzero (p.plainDivisor words fine)) _ (b .1) in
+          let r = and-parts (p.isPressure (p.plainPressure words fine count)) true (d .1) in
+          (ap pos (sym k ∙ ap natAbs same) ∙ in-range-is (p.plainPressure words fine count) (r .0), a .0, b .0, r .0)
+
+  pub pressure-where : allFit Bits64 (pressureSteps words fine count) ≡ true → isNonzero (p.plainDivisor words fine) ≡ true → p.isPressure (p.plainPressure words fine count) ≡ true → p.pressureOf words fine count ≡ pressure.Known (natAbs (p.plainPressure words fine count))
+  pressure-where a b d = pressure-is ∙ ap p.answered (accepted Bits64 (p.pressureFormula words fine count) (pressure-listed ∙ rw (a, b, d)) ∙ ap Value pressure-plain)
+
+-- ---- humidity
+
+humidity-known : (P : Type 0) (a : Num) (value : ℕ) → h.answered a ≡ humidity.Known value → ((z : ℤ) → a ≡ Value z → natAbs z ≡ value → P) → P
+humidity-known P (Value z) value e k = k z refl (cc)
+humidity-known P (Broke n) value e k = k (pos 0) (cc) (cc)
+
+-- what the clamp leaves, shifted by 12, lies within 0 and 102400
+clamped-is : (v : ℤ) → pos (natAbs (h.clamped v >>ℤ 12)) ≡ h.clamped v >>ℤ 12
+clamped-is (pos n) = refl
+clamped-is (negsuc n) = refl
+
+clamped-le : (v : ℤ) → natAbs (h.clamped v >>ℤ 12) ≤ 102400
+clamped-le (pos n) = omega arith
+clamped-le (negsuc n) = omega arith
+
+module _ (words : HumidityWords) (fine : ℤ) (count : ℕ) where
+  humidity-plain : plain (h.humidityFormula words fine count) ≡ h.plainHumidity words fine count
+  unfolding plain h.differenceLine h.levelFactor h.bendFactor h.gainFactor h.productLine h.correctionLine h.humidityLines h.lastLine h.humidityFormula h.plainHumidity
+  humidity-plain = refl
+
+  humidity-listed : allMet Bits32 (needs (h.humidityFormula words fine count)) ≡ allFit Bits32 (humiditySteps words fine count)
+  unfolding allMet allFit needs plain h.differenceLine h.levelFactor h.bendFactor h.gainFactor h.productLine h.correctionLine h.humidityLines h.lastLine h.humidityFormula humiditySteps
+  humidity-listed = refl
+
+  humidity-is : h.humidityOf words fine count ≡ h.answered (run Bits32 (h.humidityFormula words fine count))
+  unfolding h.humidityOf
+  humidity-is = refl
+
+  plain-clamped : plain (h.humidityFormula words fine count) ≡ h.clamped (plain (h.humidityLines words fine count)) >>ℤ 12
+  unfolding plain h.lastLine h.humidityFormula
+  plain-clamped = refl
+
+  plain-is : pos (natAbs (h.plainHumidity words fine count)) ≡ h.plainHumidity words fine count
+  plain-is = rw (← humidity-plain, plain-clamped) (clamped-is (plain (h.humidityLines words fine count)))
+
+  pub plain-le : natAbs (h.plainHumidity words fine count) ≤ 102400
+  plain-le = rw (← humidity-plain, plain-clamped) (clamped-le (plain (h.humidityLines words fine count)))
+
+  pub humidity-only : (value : ℕ) → h.humidityOf words fine count ≡ humidity.Known value → (pos value ≡ h.plainHumidity words fine count) × (allFit Bits32 (humiditySteps words fine count) ≡ true)
+  humidity-only value e = humidity-known _ (run Bits32 (h.humidityFormula words fine count)) value (sym humidity-is ∙ e) parts
+    where
+      parts : (z : ℤ) → run Bits32 (h.humidityFormula words fine count) ≡ Value z → natAbs z ≡ value → (pos value ≡ h.plainHumidity words fine count) × (allFit Bits32 (humiditySteps words fine count) ≡ true)
+      parts z l k =
+          let q = only-then Bits32 (h.humidityFormula words fine count) z l in
+          (ap pos (sym k ∙ ap natAbs (q .1 ∙ humidity-plain)) ∙ plain-is, sym humidity-listed ∙ q .0)
+
+  pub humidity-where : allFit Bits32 (humiditySteps words fine count) ≡ true → h.humidityOf words fine count ≡ humidity.Known (natAbs (h.plainHumidity words fine count))
+  humidity-where a = humidity-is ∙ ap h.answered (accepted Bits32 (h.humidityFormula words fine count) (humidity-listed ∙ a) ∙ ap Value humidity-plain)
