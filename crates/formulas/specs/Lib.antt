@@ -5,3 +5,4 @@ pub mod Humidity
 pub mod Listed
 pub mod Against
 pub mod Exact
+pub mod Bench
