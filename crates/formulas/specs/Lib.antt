@@ -2,3 +2,7 @@
 pub mod Temperature
 pub mod Pressure
 pub mod Humidity
+pub mod Listed
+pub mod Against
+pub mod Exact
+pub mod Bench

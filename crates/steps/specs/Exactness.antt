@@ -1,7 +1,7 @@
 -- The law of every formula: checked, it gives its plain value exactly where every need is met, and else the number of the
 -- first need that is not.
 use Prim.Native.Nat.{ℕ}
-use mathlib.Core.Path.{_≡_, refl, sym, _∙_}
+use mathlib.Core.Path.{_≡_, refl, sym, ap, _∙_}
 use mathlib.Core.Bool.{Bool, true, false, cond, _&&_}
 use mathlib.Core.List.{List, [], _∷_, _++_}
 use lib.IntN.{ℤ}
@@ -9,7 +9,7 @@ use Rattle.steps.specs.declared.Signed.{Signed}
 use Rattle.steps.specs.declared.Num.{Num}
 use Rattle.steps.specs.declared.Num.the-variants.{Value, Broke}
 use Rattle.steps.specs.Step.{fits, kept, onValue, onValues}
-use Rattle.steps.specs.Work.{Work, given, step₁, step₂, share, test, plain, Need, fit, hold, needs, met, allMet, number, verdict, run}
+use Rattle.steps.specs.Work.{Work, given, step₁, step₂, share, test, plain, Need, fit, hold, needs, met, allMet, stepValues, testsHold, allFit, number, verdict, run}
 
 -- ---- verdicts, one after the other
 
@@ -81,3 +81,25 @@ accepted w e h = exact w e ∙ verdict-met w (needs e) (plain e) h
 
 pub only-then : (w : Signed) (e : Work) (v : ℤ) → run w e ≡ Value v → (allMet w (needs e) ≡ true) × (v ≡ plain e)
 only-then w e v h = verdict-value w (needs e) (plain e) v (sym (exact w e) ∙ h)
+
+-- ---- every need is met where every step's result fits and every test holds
+
+and-assoc : (a b c : Bool) → a && (b && c) ≡ (a && b) && c
+and-assoc true b c = refl
+and-assoc false b c = refl
+
+and-swap : (a b c : Bool) → a && (b && c) ≡ b && (a && c)
+and-swap true true c = refl
+and-swap true false c = refl
+and-swap false true c = refl
+and-swap false false c = refl
+
+pub met-is : (w : Signed) (ds : List Need) → allMet w ds ≡ (allFit w (stepValues ds) && testsHold ds)
+unfolding allMet allFit stepValues testsHold
+met-is w [] = refl
+met-is w (fit z ∷ ds) = ap (λ b. fits w z && b) (met-is w ds) ∙ and-assoc (fits w z) (allFit w (stepValues ds)) (testsHold ds)
+met-is w (hold b n ∷ ds) = ap (λ c. b && c) (met-is w ds) ∙ and-swap b (allFit w (stepValues ds)) (testsHold ds)
+
+pub and-parts : (a b : Bool) → a && b ≡ true → (a ≡ true) × (b ≡ true)
+and-parts true b e = (refl, e)
+and-parts false b e = (e, cc)

@@ -29,7 +29,7 @@ passed-value true n z x h = cc
 passed-value false n z x h = cc
 
 -- an answer that is a value goes back to the operand's
-from-value : (P : Type 0) (a : Num) (f : ℤ → Num) (x : ℤ) → onValue a f ≡ Value x → ((y : ℤ) → a ≡ Value y → f y ≡ Value x → P) → P
+pub from-value : (P : Type 0) (a : Num) (f : ℤ → Num) (x : ℤ) → onValue a f ≡ Value x → ((y : ℤ) → a ≡ Value y → f y ≡ Value x → P) → P
 unfolding onValue
 from-value P (Value y) f x h k = k y refl h
 from-value P (Broke n) f x h k = absurd (let z : _≡_ {A = ℕ} 0 1 = cc in impossible z)
