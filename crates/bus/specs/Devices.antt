@@ -9,26 +9,26 @@ use Rattle.bus.specs.declared.Bus.the-variants.{I2c, Spi}
 use Rattle.bus.specs.declared.Device.{Device}
 use Rattle.bus.specs.declared.Device.the-variants.{At, Selected}
 
-unfoldable pub busOf : Device → Bus
+abbrev pub busOf : Device → Bus
 busOf (At address) = I2c
 busOf Selected = Spi
 
-unfoldable pub isDevice : Device → Bool
+abbrev pub isDevice : Device → Bool
 isDevice (At address) = eqb address reg.i2cLow || eqb address reg.i2cHigh
 isDevice Selected = true
 
 -- what a write has before its pairs: on I2C the address doubled
-unfoldable pub leading : Device → List ℕ
+abbrev pub leading : Device → List ℕ
 leading (At address) = address * 2 ∷ []
 leading Selected = []
 
 -- the device that a write's bytes are for
-unfoldable pub addressed : Bus → List ℕ → Device
+abbrev pub addressed : Bus → List ℕ → Device
 addressed I2c [] = At 0
 addressed I2c (first ∷ rest) = At (first / 2)
 addressed Spi bytes = Selected
 
 -- the values that say which device: on I2C its address
-unfoldable pub addresses : Device → List ℕ
+abbrev pub addresses : Device → List ℕ
 addresses (At address) = address ∷ []
 addresses Selected = []

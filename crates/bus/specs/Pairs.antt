@@ -12,7 +12,7 @@ abbrev pub isEven : List ℕ → Bool
 isEven bytes = eqb (length bytes % 2) 0
 
 -- whole pairs, at least one and at most 16
-unfoldable pub arePairs : List ℕ → Bool
+abbrev pub arePairs : List ℕ → Bool
 arePairs bytes = isEven bytes && (leb 1 (length bytes) && leb (length bytes) (2 * reg.mostPairs))
 
 -- each register passes the test

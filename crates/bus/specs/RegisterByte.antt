@@ -9,7 +9,7 @@ use Rattle.bus.specs.declared.register.Change.{Change}
 use Rattle.bus.specs.declared.register.Change.the-variants.{Keep, ClearBit7, SetBit7}
 
 -- only F2, F4, F5 and E0 may be written
-unfoldable pub isWritable : ℕ → Bool
+abbrev pub isWritable : ℕ → Bool
 isWritable register =
     eqb register reg.ctrlHum || (eqb register reg.ctrlMeas || (eqb register reg.config || eqb register reg.reset))
 
@@ -17,21 +17,21 @@ isWritable register =
 abbrev pub isReadable : ℕ → Bool
 isReadable register = leb reg.firstRegister register
 
-unfoldable pub changed : Change → ℕ → ℕ
+abbrev pub changed : Change → ℕ → ℕ
 changed Keep register = register
 changed ClearBit7 register = register % 128
 changed SetBit7 register = register % 128 + 128
 
 -- I2C carries the register as it is; SPI writes send it with bit 7 clear, and decoding sets bit 7 again
-unfoldable pub sending : Bus → Change
+abbrev pub sending : Bus → Change
 sending I2c = Keep
 sending Spi = ClearBit7
 
-unfoldable pub receiving : Bus → Change
+abbrev pub receiving : Bus → Change
 receiving I2c = Keep
 receiving Spi = SetBit7
 
 -- the register bytes that a write can have on the bus
-unfoldable pub isCarried : Bus → ℕ → Bool
+abbrev pub isCarried : Bus → ℕ → Bool
 isCarried I2c byte = true
 isCarried Spi byte = ltb byte 128

@@ -5,6 +5,6 @@ use Rattle.bus.specs.declared.register.Test.{Test}
 use Rattle.bus.specs.declared.register.Test.the-variants.{Carried, Writable}
 use Rattle.bus.specs.RegisterByte.{isCarried, isWritable, changed}
 
-unfoldable pub passes : Test → ℕ → Bool
+abbrev pub passes : Test → ℕ → Bool
 passes (Carried bus) byte = isCarried bus byte
 passes (Writable change) byte = isWritable (changed change byte)

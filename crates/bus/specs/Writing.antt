@@ -58,11 +58,11 @@ decodedWrite bus bytes lent =
 
 -- ---- the paper's number and values for each case of the enums
 
-unfoldable pub encodedAnswer : Encoded → Answer
+abbrev pub encodedAnswer : Encoded → Answer
 encodedAnswer (encoded.Bytes n) = given (n ∷ [])
 encodedAnswer (encoded.Refused number) = refused number
 
-unfoldable pub decodedAnswer : Decoded → Answer
+abbrev pub decodedAnswer : Decoded → Answer
 decodedAnswer (decoded.Pairs device n) = given (addresses device ++ n ∷ [])
 decodedAnswer (decoded.Refused number) = refused number
 

@@ -26,7 +26,7 @@ pub fn is_device(device: Device) -> bool
     ensures { λ r. ⌜ r ≡ isDevice device ⌝ }
 {
     match device {
-        Device::At(address) => address == paper::I2C_LOW || address == paper::I2C_HIGH,
+        Device::At(address) => (address == paper::I2C_LOW) | (address == paper::I2C_HIGH),
         Device::Selected => true,
     }
 }
@@ -67,7 +67,7 @@ pub fn is_shaped(bus: Bus, bytes: &[u8]) -> bool
 
 // Whether the byte is a device address doubled.
 fn is_doubled(byte: u8) -> bool {
-    byte == paper::I2C_LOW * 2 || byte == paper::I2C_HIGH * 2
+    (byte == paper::I2C_LOW * 2) | (byte == paper::I2C_HIGH * 2)
 }
 
 // The device that a write's bytes are for.

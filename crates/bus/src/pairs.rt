@@ -15,7 +15,7 @@ pub fn are_pairs(bytes: &[u8]) -> bool
     ensures { λ r. ⌜ r ≡ arePairs (now (bytes .entry)) ⌝ }
 {
     let length = bytes.len();
-    length % 2 == 0 && (1 <= length && length <= 2 * paper::MOST_PAIRS)
+    (length % 2 == 0) & ((1 <= length) & (length <= 2 * paper::MOST_PAIRS))
 }
 
 // Whether each register of the pairs passes the test.

@@ -52,8 +52,9 @@ pub fn receiving(bus: Bus) -> Change
 pub fn is_writable(register: u8) -> bool
     ensures { λ r. ⌜ r ≡ isWritable register ⌝ }
 {
-    register == paper::CTRL_HUM
-        || (register == paper::CTRL_MEAS || (register == paper::CONFIG || register == paper::RESET))
+    (register == paper::CTRL_HUM)
+        | ((register == paper::CTRL_MEAS)
+            | ((register == paper::CONFIG) | (register == paper::RESET)))
 }
 
 // Whether a write on this bus can have the register byte.

@@ -1,2 +1,3 @@
 -- Laws that the proofs of more than one crate cite.
 pub mod Cases
+pub mod Tests

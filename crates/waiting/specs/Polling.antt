@@ -11,7 +11,7 @@ use Rattle.waiting.specs.declared.Polled.{Polled}
 use Rattle.waiting.specs.declared.Polled.the-variants.{Ready, Never}
 
 -- bits 3 and 0 both clear, whatever the others say
-unfoldable pub isReady : ℕ → Bool
+abbrev pub isReady : ℕ → Bool
 isReady status = eqb (status / 8 % 2) 0 && eqb (status % 2) 0
 
 -- the place of the first ready byte; their number where none is
@@ -38,7 +38,7 @@ polled status allowance =
     (never (limit status allowance))
 
 -- the paper's number and values for each case of the enum
-unfoldable pub pollAnswer : Polled → Answer
+abbrev pub pollAnswer : Polled → Answer
 pollAnswer (Ready at polls) = given (at ∷ polls ∷ [])
 pollAnswer (Never polls) = never polls
 

@@ -16,19 +16,21 @@ unfoldable pub samples : ℕ → ℕ
 samples code =
     cond (eqb code 0) 0 (cond (eqb code 1) 1 (cond (eqb code 2) 2 (cond (eqb code 3) 4 (cond (eqb code 4) 8 16))))
 
--- the microseconds of the base, of each sample, and those more if pressure or humidity has any
+-- the base, each sample, and what pressure or humidity takes more if it has any
 abbrev pub maximum : Figures
 maximum = record { base = 1250; sample = 2300; extra = 575 }
 
 abbrev pub typical : Figures
 typical = record { base = 1000; sample = 2000; extra = 500 }
 
--- pressure's or humidity's part
-unfoldable pub channelPart : Figures → ℕ → ℕ
-channelPart f code = cond (eqb (samples code) 0) 0 (f .sample * samples code + f .extra)
+-- a channel's part: a skipped one has none
+unfoldable pub channelPart : ℕ → ℕ → ℕ → ℕ
+channelPart sample extra code = cond (eqb (samples code) 0) 0 (samples code * sample + extra)
 
+-- temperature has nothing extra
 unfoldable pub microseconds : Figures → ℕ → ℕ → ℕ → ℕ
-microseconds f t p h = f .base + f .sample * samples t + channelPart f p + channelPart f h
+microseconds f t p h =
+    f .base + channelPart (f .sample) 0 t + channelPart (f .sample) (f .extra) p + channelPart (f .sample) (f .extra) h
 
 abbrev pub isCode : ℕ → Bool
 isCode code = leb code reg.lastCode
@@ -41,7 +43,7 @@ unfoldable pub waited : Figures → ℕ → ℕ → ℕ → Answer
 waited f t p h = cond (areCodes t p h) (given (microseconds f t p h ∷ [])) (refused no.outOfRange)
 
 -- the paper's number and values for each case of the enum
-unfoldable pub waitAnswer : Wait → Answer
+abbrev pub waitAnswer : Wait → Answer
 waitAnswer (Microseconds n) = given (n ∷ [])
 waitAnswer (Refused number) = refused number
 

@@ -7,7 +7,7 @@ ghost use Rattle.waiting.specs.Polling.{isReady};
 pub fn is_ready(status: u8) -> bool
     ensures { λ r. ⌜ r ≡ isReady status ⌝ }
 {
-    status / 8 % 2 == 0 && status % 2 == 0
+    (status / 8 % 2 == 0) & (status % 2 == 0)
 }
 
 // The smaller of two limits.
