@@ -13,20 +13,37 @@ abbrev pub busOf : Device → Bus
 busOf (At address) = I2c
 busOf Selected = Spi
 
+abbrev pub isAddress : ℕ → Bool
+isAddress address = eqb address reg.i2cLow || eqb address reg.i2cHigh
+
+-- 4 is for any other address
 abbrev pub isDevice : Device → Bool
-isDevice (At address) = eqb address reg.i2cLow || eqb address reg.i2cHigh
+isDevice (At address) = isAddress address
 isDevice Selected = true
 
--- what a write has before its pairs: on I2C the address doubled
+-- ---- what a write has before its pairs: on I2C the address doubled
+
 abbrev pub leading : Device → List ℕ
 leading (At address) = address * 2 ∷ []
 leading Selected = []
 
--- the device that a write's bytes are for
-abbrev pub addressed : Bus → List ℕ → Device
-addressed I2c [] = At 0
-addressed I2c (first ∷ rest) = At (first / 2)
-addressed Spi bytes = Selected
+abbrev pub leadingLength : Bus → ℕ
+leadingLength I2c = 1
+leadingLength Spi = 0
+
+-- EC or EE
+abbrev pub isDoubled : ℕ → Bool
+isDoubled byte = eqb byte (reg.i2cLow * 2) || eqb byte (reg.i2cHigh * 2)
+
+-- whether a write on the bus can have this first byte
+abbrev pub isLed : Bus → ℕ → Bool
+isLed I2c first = isDoubled first
+isLed Spi first = true
+
+-- the device that a write with this first byte is for
+abbrev pub addressed : Bus → ℕ → Device
+addressed I2c first = At (first / 2)
+addressed Spi first = Selected
 
 -- the values that say which device: on I2C its address
 abbrev pub addresses : Device → List ℕ

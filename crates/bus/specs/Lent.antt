@@ -1,21 +1,17 @@
--- What is answered, and what a lent buffer holds then: nothing but 0 writes to it, and bytes past the output stay.
+-- A number by checks in order, and what is handed back by a number: nothing but 0 writes to a lent buffer, and bytes past the output stay.
 use Prim.Native.Nat.{ℕ}
-use lib.Dec.{leb}
+use lib.Dec.{eqb}
 use lib.ListN.{length, drop}
 use mathlib.Core.Bool.{Bool, cond}
 use mathlib.Core.List.{List, [], _∷_, _++_}
 use Rattle.paper.specs.Numbers as no
 use Rattle.paper.specs.Answers.{Answer, given, refused}
 
-abbrev pub Outcome : Type 0
-Outcome = Answer × List ℕ
+-- the number where the test fails, and what the next checks say where it holds
+abbrev pub check : Bool → ℕ → ℕ → ℕ
+check test number next = cond test next number
 
--- the number where the test fails, and what follows where it holds
-abbrev pub check : Bool → ℕ → List ℕ → Outcome → Outcome
-check test number lent next = cond test next (refused number, lent)
-
--- the bytes at the front of the lent buffer, and their number as the last value; 9 where they don't fit
-unfoldable pub written : List ℕ → List ℕ → List ℕ → Outcome
-written values bytes lent =
-    check (leb (length bytes) (length lent)) no.bufferTooShort lent
-    (given (values ++ length bytes ∷ []), bytes ++ drop (length bytes) lent)
+-- the answer, and what the lent buffer holds then: by 0 the bytes at its front, their number being the last value
+unfoldable pub handed : ℕ → List ℕ → List ℕ → List ℕ → Answer × List ℕ
+handed number values bytes lent =
+    cond (eqb number no.done) (given (values ++ length bytes ∷ []), bytes ++ drop (length bytes) lent) (refused number, lent)

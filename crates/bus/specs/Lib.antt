@@ -6,3 +6,4 @@ pub mod Devices
 pub mod Lent
 pub mod Writing
 pub mod Reading
+pub mod Examples

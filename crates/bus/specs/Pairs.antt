@@ -2,7 +2,7 @@
 use Prim.Native.Nat.{ℕ, _*_, _%_}
 use lib.Dec.{eqb, leb}
 use lib.ListN.{length}
-use mathlib.Core.Bool.{Bool, true, false, _&&_}
+use mathlib.Core.Bool.{Bool, true, _&&_}
 use mathlib.Core.List.{List, [], _∷_}
 use Rattle.paper.specs.Registers as reg
 use Rattle.bus.specs.declared.register.Change.{Change}
@@ -18,11 +18,11 @@ arePairs bytes = isEven bytes && (leb 1 (length bytes) && leb (length bytes) (2 
 -- each register passes the test
 unfoldable pub every : (ℕ → Bool) → List ℕ → Bool
 every test [] = true
-every test (register ∷ []) = false
+every test (register ∷ []) = test register
 every test (register ∷ value ∷ rest) = test register && every test rest
 
 -- the same pairs with each register changed
 unfoldable pub withRegisters : Change → List ℕ → List ℕ
 withRegisters change [] = []
-withRegisters change (register ∷ []) = []
+withRegisters change (register ∷ []) = changed change register ∷ []
 withRegisters change (register ∷ value ∷ rest) = changed change register ∷ value ∷ withRegisters change rest

@@ -4,8 +4,12 @@ ghost use Rattle.bus.specs.Writing.{encodedWrite, encodedAnswer, decoded
 ghost use Rattle.bus.specs.Reading.{encodedRead};
 
 mod addressing;
+mod checks;
+mod message;
 mod pairs;
+mod question;
 mod register;
+mod shape;
 
 // The two buses.
 pub enum Bus {
@@ -36,23 +40,12 @@ pub enum Decoded {
 pub fn encode_write(device: Device, pairs: &[u8], lent: &mut [u8]) -> Encoded
     ensures { λ r. ⌜ (encodedAnswer r, now (lent .exit)) ≡ encodedWrite device (now (pairs .entry)) (now (lent .entry)) ⌝ }
 {
-    if !addressing::is_device(device) {
-        return Encoded::Refused(paper::ADDRESS_NOT_ALLOWED);
+    let length = message::message_length(device, pairs);
+    let number = checks::encode_number(device, pairs, length, lent.len());
+    if number != paper::DONE {
+        return Encoded::Refused(number);
     }
-    if !pairs::are_pairs(pairs) {
-        return Encoded::Refused(paper::PAIRS_OUTSIDE);
-    }
-    if !pairs::every(register::Test::Writable(register::Change::Keep), pairs) {
-        return Encoded::Refused(paper::ADDRESS_NOT_ALLOWED);
-    }
-    let bus = addressing::bus_of(device);
-    let start = addressing::leading_length(bus);
-    let length = start + pairs.len();
-    if lent.len() < length {
-        return Encoded::Refused(paper::BUFFER_TOO_SHORT);
-    }
-    addressing::write_leading(device, lent);
-    pairs::write_changed(register::sending(bus), pairs, &mut lent[start..]);
+    message::write_message(device, pairs, lent);
     Encoded::Bytes(length)
 }
 
@@ -61,55 +54,28 @@ pub fn encode_write(device: Device, pairs: &[u8], lent: &mut [u8]) -> Encoded
 pub fn decode_write(bus: Bus, bytes: &[u8], lent: &mut [u8]) -> Decoded
     ensures { λ r. ⌜ (decodedAnswer r, now (lent .exit)) ≡ decodedWrite bus (now (bytes .entry)) (now (lent .entry)) ⌝ }
 {
-    if !addressing::is_shaped(bus, bytes) {
-        return Decoded::Refused(paper::WRONG_SHAPE);
+    let number = checks::decode_number(bus, bytes, lent.len());
+    if number != paper::DONE {
+        return Decoded::Refused(number);
     }
-    let body = &bytes[addressing::leading_length(bus)..];
-    if !pairs::are_pairs(body) {
-        return Decoded::Refused(paper::PAIRS_OUTSIDE);
-    }
-    let change = register::receiving(bus);
-    if !pairs::every(register::Test::Writable(change), body) {
-        return Decoded::Refused(paper::ADDRESS_NOT_ALLOWED);
-    }
-    let length = body.len();
-    if lent.len() < length {
-        return Decoded::Refused(paper::BUFFER_TOO_SHORT);
-    }
-    pairs::write_changed(change, body, lent);
+    let body = shape::body(bus, bytes);
+    pairs::write_changed(register::receiving(bus), body, lent);
     Decoded::Pairs {
-        device: addressing::addressed(bus, bytes),
-        bytes: length,
+        device: addressing::addressed(bus, bytes[0]),
+        bytes: body.len(),
     }
 }
 
-// Writes the message that asks the device for a register: on I2C both messages, one after the other.
-// Refuses with 4 for the device address and for the register, 9.
+// Writes the bytes that ask the device for a register: on I2C both messages, one after the other.
+// Refuses with 4 for the device address, 4 for the register, 9.
 pub fn encode_read(device: Device, register: u8, lent: &mut [u8]) -> Encoded
     ensures { λ r. ⌜ (encodedAnswer r, now (lent .exit)) ≡ encodedRead device register (now (lent .entry)) ⌝ }
 {
-    if !addressing::is_device(device) {
-        return Encoded::Refused(paper::ADDRESS_NOT_ALLOWED);
+    let length = question::question_length(device, register);
+    let number = checks::read_number(device, register, length, lent.len());
+    if number != paper::DONE {
+        return Encoded::Refused(number);
     }
-    if register < paper::FIRST_REGISTER {
-        return Encoded::Refused(paper::ADDRESS_NOT_ALLOWED);
-    }
-    match device {
-        Device::At(address) => {
-            if lent.len() < 3 {
-                return Encoded::Refused(paper::BUFFER_TOO_SHORT);
-            }
-            lent[0] = address * 2;
-            lent[1] = register;
-            lent[2] = address * 2 + 1;
-            Encoded::Bytes(3)
-        }
-        Device::Selected => {
-            if lent.len() < 1 {
-                return Encoded::Refused(paper::BUFFER_TOO_SHORT);
-            }
-            lent[0] = register::changed(register::Change::SetBit7, register);
-            Encoded::Bytes(1)
-        }
-    }
+    question::write_question(device, register, lent);
+    Encoded::Bytes(length)
 }

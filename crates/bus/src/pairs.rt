@@ -11,7 +11,7 @@ use crate::register::Change;
 use crate::register::Test;
 
 // Whether the bytes are whole pairs, at least one and at most 16.
-pub fn are_pairs(bytes: &[u8]) -> bool
+pub(crate) fn are_pairs(bytes: &[u8]) -> bool
     ensures { λ r. ⌜ r ≡ arePairs (now (bytes .entry)) ⌝ }
 {
     let length = bytes.len();
@@ -19,8 +19,7 @@ pub fn are_pairs(bytes: &[u8]) -> bool
 }
 
 // Whether each register of the pairs passes the test.
-pub fn every(test: Test, pairs: &[u8]) -> bool
-    requires { ⌜ isEven (now pairs) ≡ true ⌝ }
+pub(crate) fn every(test: Test, pairs: &[u8]) -> bool
     ensures { λ r. ⌜ r ≡ everyRegister (passes test) (now (pairs .entry)) ⌝ }
 {
     let mut i = 0;
@@ -34,7 +33,7 @@ pub fn every(test: Test, pairs: &[u8]) -> bool
 }
 
 // Writes the pairs with each register changed to the front of the lent buffer.
-pub fn write_changed(change: Change, pairs: &[u8], lent: &mut [u8])
+pub(crate) fn write_changed(change: Change, pairs: &[u8], lent: &mut [u8])
     requires { ⌜ (isEven (now pairs) ≡ true) × (length (now pairs) ≤ length (now lent)) ⌝ }
     ensures { λ r. ⌜ now (lent .exit) ≡ withRegisters change (now (pairs .entry)) ++ drop (length (now (pairs .entry))) (now (lent .entry)) ⌝ }
 {

@@ -5,20 +5,20 @@ ghost use Rattle.bus.specs.Tests.{passes as passesTest};
 use crate::Bus;
 
 // What is done to a register byte.
-pub enum Change {
+pub(crate) enum Change {
     Keep,
     ClearBit7,
     SetBit7,
 }
 
-// What is asked of a register byte: that the bus can carry it, or that it may be written once changed.
-pub enum Test {
+// What is asked of a register byte: that a write on the bus can have it, or that once changed it may be written.
+pub(crate) enum Test {
     Carried(Bus),
     Writable(Change),
 }
 
 // The register byte changed.
-pub fn changed(change: Change, register: u8) -> u8
+pub(crate) fn changed(change: Change, register: u8) -> u8
     ensures { λ r. ⌜ r ≡ changedBy change register ⌝ }
 {
     match change {
@@ -29,7 +29,7 @@ pub fn changed(change: Change, register: u8) -> u8
 }
 
 // What sending on this bus does to a register byte.
-pub fn sending(bus: Bus) -> Change
+pub(crate) fn sending(bus: Bus) -> Change
     ensures { λ r. ⌜ r ≡ sendingOn bus ⌝ }
 {
     match bus {
@@ -39,7 +39,7 @@ pub fn sending(bus: Bus) -> Change
 }
 
 // What receiving on this bus does to a register byte.
-pub fn receiving(bus: Bus) -> Change
+pub(crate) fn receiving(bus: Bus) -> Change
     ensures { λ r. ⌜ r ≡ receivingOn bus ⌝ }
 {
     match bus {
@@ -49,7 +49,7 @@ pub fn receiving(bus: Bus) -> Change
 }
 
 // Whether the register may be written.
-pub fn is_writable(register: u8) -> bool
+fn is_writable(register: u8) -> bool
     ensures { λ r. ⌜ r ≡ isWritable register ⌝ }
 {
     (register == paper::CTRL_HUM)
@@ -58,7 +58,7 @@ pub fn is_writable(register: u8) -> bool
 }
 
 // Whether a write on this bus can have the register byte.
-pub fn is_carried(bus: Bus, byte: u8) -> bool
+fn is_carried(bus: Bus, byte: u8) -> bool
     ensures { λ r. ⌜ r ≡ isCarried bus byte ⌝ }
 {
     match bus {
@@ -68,7 +68,7 @@ pub fn is_carried(bus: Bus, byte: u8) -> bool
 }
 
 // Whether the register byte passes the test.
-pub fn passes(test: Test, byte: u8) -> bool
+pub(crate) fn passes(test: Test, byte: u8) -> bool
     ensures { λ r. ⌜ r ≡ passesTest test byte ⌝ }
 {
     match test {

@@ -48,7 +48,7 @@ fn are_codes(temperature: u8, pressure: u8, humidity: u8) -> bool
 
 // How long a conversion takes by the given figures, none of them above 10000.
 // A code above 7 gives 7.
-pub fn wait(figures: Figures, temperature: u8, pressure: u8, humidity: u8) -> Wait
+pub(crate) fn wait(figures: Figures, temperature: u8, pressure: u8, humidity: u8) -> Wait
     requires { ⌜ (figures .base ≤ 10000) × (figures .sample ≤ 10000) × (figures .extra ≤ 10000) ⌝ }
     ensures { λ r. ⌜ waitAnswer r ≡ waited figures temperature pressure humidity ⌝ }
 {
