@@ -83,14 +83,12 @@ writtenControl m a v =
     (cond (eqb a reg.config) (writtenF5 m v)
     (writtenF4 m v)))
 
-abbrev pub writtenRegister : Machine → ℕ → ℕ → Outcome
-writtenRegister m a v = cond (eqb a reg.reset) (writtenReset m v) (writtenControl m a v)
-
 abbrev pub written : Machine → ℕ → ℕ → Outcome
 written m a v =
     cond (isOpen (m .burst)) (answered burstIsOpen m)
     (cond (not (reg.isWritable a)) (answered addressNotAllowed m)
-    (writtenRegister m a v))
+    (cond (eqb a reg.reset) (writtenReset m v)
+    (writtenControl m a v)))
 
 -- ---- finish: checks 6 (not running), 7 (20, 20, 16 bits), 8
 
@@ -101,6 +99,10 @@ mayFinish d = runs (d .phase)
 -- forced goes to sleep with F4's mode bits cleared, normal to standby
 abbrev pub rested : Device → Device
 rested d = cond (isForced (d .phase)) (withPhase Sleep (withF4 (d .f4 / 4 * 4) d)) (withPhase Standby d)
+
+-- the held F4 begins a conversion once the device rests
+abbrev pub heldWillBegin : Device → Bool
+heldWillBegin d = heldBegins (d .held) (rested d .phase)
 
 -- the conversion that was running, with its bytes
 abbrev pub finishedOne : Machine → List ℕ → Conversion
@@ -126,7 +128,7 @@ abbrev pub finished : Machine → ℕ → ℕ → ℕ → Outcome
 finished m t p h =
     cond (not (mayFinish (m .device))) (answered wrongPhase m)
     (cond (not (inRange t p h)) (answered outOfRange m)
-    (cond (isBarred (heldBegins (m .device .held) (rested (m .device) .phase)) (m .ledger)) (answered allBegun m)
+    (cond (isBarred (heldWillBegin (m .device)) (m .ledger)) (answered allBegun m)
     (answered done (converted m (stored (m .device) t p h)))))
 
 -- ---- wake: from standby begins a conversion; checks 6, 8
