@@ -1,0 +1,5 @@
+pub mod Fate
+pub mod Tally
+pub mod Book
+pub mod Right
+pub mod Named
