@@ -6,3 +6,6 @@ pub mod Named
 pub mod Entries
 pub mod Walk
 pub mod Given
+pub mod Kept
+pub mod Standing
+pub mod Theorems

@@ -13,7 +13,6 @@ use Rattle.machine.specs.declared.Machine.{Machine}
 use Rattle.machine.specs.State.{noCodes}
 use Rattle.machine.specs.Counts.{tallied}
 use Rattle.machine.specs.Data.{isData}
-use Rattle.machine.specs.Events.{closed}
 use Rattle.machine.specs.Event.{Event, answer}
 use Rattle.machine.specs.Refused.{Unchanged}
 use Rattle.ledger.specs.History.{Happening, Reading, begunIn, givenIn, wholeIn, shownBy, noReading, whereIs, isRunning, isWaiting, isShown}
@@ -70,10 +69,11 @@ pub record ShowsNothing (c : Closing) (left lent : List ℕ) : Type 0 where
   pub bytes-are : left ≡ lent
   pub before-is : c .delivered ≡ false
 
-pub record CloseIsTrue (m : Machine) (h : List Happening) (lent : List ℕ) : Type 0 where
-  pub whole-is : closed m lent .0 .whole ≡ eqb (closed m lent .0 .answer) done && wholeIn h
-  pub whole-shows : closed m lent .0 .whole ≡ true → Shows (closed m lent .0) (closed m lent .1) h
-  pub other-shows-nothing : closed m lent .0 .whole ≡ false → ShowsNothing (closed m lent .0) (closed m lent .1) lent
+-- of the answer c of a close and what it leaves in the lent bytes
+pub record CloseIsTrue (c : Closing) (left lent : List ℕ) (h : List Happening) : Type 0 where
+  pub whole-is : c .whole ≡ eqb (c .answer) done && wholeIn h
+  pub whole-shows : c .whole ≡ true → Shows c left h
+  pub other-shows-nothing : c .whole ≡ false → ShowsNothing c left lent
 
 -- ---- 5. Every byte given from F7 to FE in the burst is that conversion's byte, whatever finishes meanwhile.
 
