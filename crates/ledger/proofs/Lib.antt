@@ -9,3 +9,5 @@ pub mod Given
 pub mod Kept
 pub mod Standing
 pub mod Theorems
+pub mod Turn
+pub mod Alive

@@ -1,0 +1,97 @@
+-- A dead machine does not pass, though the sum alone would let it: whatever came before, the next conversion begins, finishes with its own bytes, is shown
+-- under its own number, and is counted, in forced mode and in normal mode, for any codes and counts (proofs/Alive.antt).
+use Prim.Native.Nat.{ℕ, _+_, _/_, _%_, _<_}
+use mathlib.Core.Path.{_≡_}
+use mathlib.Core.Bool.{true, false}
+use mathlib.Core.List.{List, [], _∷_, _++_}
+use lib.ListN.{length}
+use Rattle.paper.specs.Numbers.{done}
+use Rattle.paper.specs.Registers as reg
+use Rattle.machine.specs.declared.Codes.{Codes}
+use Rattle.machine.specs.declared.Closing.{Closing}
+use Rattle.machine.specs.declared.Ledger.{Ledger}
+use Rattle.machine.specs.declared.Machine.{Machine}
+use Rattle.machine.specs.State.{runs}
+use Rattle.machine.specs.Data.{inRange, kept, laid}
+use Rattle.machine.specs.Events.{closed}
+use Rattle.machine.specs.Event.{Event, Write, Finish, Wake, Open, Byte, Close, after}
+
+-- one turn: the bytes for F2 and F4, the three counts, and the bytes lent to the close
+pub record Turn : Type 0 where
+  pub f2 : ℕ
+  pub f4 : ℕ
+  pub temperature : ℕ
+  pub pressure : ℕ
+  pub humidity : ℕ
+  pub lent : List ℕ
+
+-- its counts have 20, 20 and 16 bits, and it lends eight bytes
+pub record Fits (t : Turn) : Type 0 where
+  pub counts-fit : inRange (t .temperature) (t .pressure) (t .humidity) ≡ true
+  pub lends-eight : length (t .lent) ≡ reg.dataLength
+
+-- the codes that its bytes for F4 and F2 set, and the data bytes of its counts under the codes c
+abbrev pub codesOf : Turn → Codes
+codesOf t = record { temperature = t .f4 / 32; pressure = t .f4 / 4 % 8; humidity = t .f2 % 8 }
+
+abbrev pub bytesOf : Codes → Turn → List ℕ
+bytesOf c t =
+    laid
+    (kept (c .temperature) (t .temperature) reg.skipped20)
+    (kept (c .pressure) (t .pressure) reg.skipped20)
+    (kept (c .humidity) (t .humidity) reg.skipped16)
+
+-- what begins a conversion: F2 and F4 are written, in sleep; or the device wakes, in standby
+abbrev pub byWrite : Turn → List Event
+byWrite t = Write reg.ctrlHum (t .f2) ∷ Write reg.ctrlMeas (t .f4) ∷ []
+
+abbrev pub byWake : List Event
+byWake = Wake ∷ []
+
+-- it finishes, and is read whole but for the close
+abbrev pub measured : Turn → List Event
+measured t =
+    Finish (t .temperature) (t .pressure) (t .humidity)
+    ∷ Open reg.firstData ∷ Byte ∷ Byte ∷ Byte ∷ Byte ∷ Byte ∷ Byte ∷ Byte ∷ Byte ∷ []
+
+-- one more has begun than in m, and runs, with the codes c
+pub record Begins (m now : Machine) (c : Codes) : Type 0 where
+  pub begun-is : now .ledger .begun ≡ m .ledger .begun + 1
+  pub runs-now : runs (now .device .phase) ≡ true
+  pub codes-are : now .device .codes ≡ c
+
+-- the close x shows the conversion n of the turn, with the codes c, and then n have begun and d are delivered
+pub record Delivers (n d : ℕ) (c : Codes) (t : Turn) (x : Closing) (left : List ℕ) : Type 0 where
+  pub answer-is : x .answer ≡ done
+  pub whole-is : x .whole ≡ true
+  pub number-is : x .number ≡ n
+  pub codes-are : x .codes ≡ c
+  pub bytes-are : left ≡ bytesOf c t
+  pub not-before : x .delivered ≡ false
+  pub begun-is : x .machine .ledger .begun ≡ n
+  pub delivered-is : x .machine .ledger .delivered ≡ d
+
+-- in sleep, with nothing being copied, a write of F4 in any mode but sleep
+pub record WriteIsTrue (m : Machine) (t : Turn) : Type 0 where
+  pub begins : Begins m (after m (byWrite t)) (codesOf t)
+  pub delivers : let x = closed (after m (byWrite t ++ measured t)) (t .lent) in
+      Delivers (m .ledger .begun + 1) (m .ledger .delivered + 1) (codesOf t) t (x .0) (x .1)
+
+-- in standby, with nothing held
+pub record WakeIsTrue (m : Machine) (t : Turn) : Type 0 where
+  pub begins : Begins m (after m byWake) (m .device .codes)
+  pub delivers : let x = closed (after m (byWake ++ measured t)) (t .lent) in
+      Delivers (m .ledger .begun + 1) (m .ledger .delivered + 1) (m .device .codes) t (x .0) (x .1)
+
+-- turn after turn: each conversion begins by a write, or each by a wake
+abbrev pub forcedTurns : List Turn → List Event
+forcedTurns [] = []
+forcedTurns (t ∷ ts) = byWrite t ++ measured t ++ Close (t .lent) ∷ forcedTurns ts
+
+abbrev pub wokenTurns : List Turn → List Event
+wokenTurns [] = []
+wokenTurns (t ∷ ts) = byWake ++ measured t ++ Close (t .lent) ∷ wokenTurns ts
+
+-- n have begun, all are delivered, and nothing else is counted
+abbrev pub allDelivered : ℕ → Ledger
+allDelivered n = record { begun = n; delivered = n; overwritten = 0; abandoned = 0; standing = 0 }
