@@ -48,6 +48,9 @@ made b bs = record { number = b .ledger .begun; codes = b .codes; bytes = bs }
 abbrev pub counts : ℕ → ℕ → ℕ → ℕ → ℕ → Ledger
 counts b d o a s = record { begun = b; delivered = d; overwritten = o; abandoned = a; standing = s }
 
+pub same-ledger : {b b′ d d′ o o′ a a′ s s′ : ℕ} → b ≡ b′ → d ≡ d′ → o ≡ o′ → a ≡ a′ → s ≡ s′ → counts b d o a s ≡ counts b′ d′ o′ a′ s′
+same-ledger p q r s t = cc
+
 abbrev pub begins : Ledger → Ledger
 begins l = counts (l .begun + 1) (l .delivered) (l .overwritten) (l .abandoned) (l .standing + 1)
 

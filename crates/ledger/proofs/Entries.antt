@@ -15,7 +15,7 @@ use Rattle.machine.specs.State.{noConversion, freshWith, runs, isOpen, isThere,
 use Rattle.machine.specs.Counts.{begunIf, deliveredIf, overwrittenIf, abandonedAll}
 use Rattle.machine.specs.Events.{reset, finishedOne, showing, keeping, landed, delivering, ended}
 use Rattle.ledger.specs.History.{Happening, began, finished, lost, closed, Reading, bit}
-use Rattle.ledger.proofs.Book.{Book, some, enter, counts, begins, delivers, overwrites, abandons}
+use Rattle.ledger.proofs.Book.{Book, enter, same-ledger, begins, delivers, overwrites, abandons}
 use Rattle.ledger.proofs.Right.{Right, right-sum}
 
 abbrev pub reading : Conversion → Reading
@@ -36,9 +36,6 @@ pub record Tidy (m : Machine) : Type 0 where
   pub unread-waits : m .waiting .delivered ≡ false
 
 -- ---- with room no count is cut
-
-same-ledger : {b b′ d d′ o o′ a a′ s s′ : ℕ} → b ≡ b′ → d ≡ d′ → o ≡ o′ → a ≡ a′ → s ≡ s′ → counts b d o a s ≡ counts b′ d′ o′ a′ s′
-same-ledger p q r s t = cc
 
 begun-more : (l : Ledger) → l .begun < mostBegun → l .standing < mostBegun → begunIf true l ≡ begins l
 begun-more l p q = same-ledger (omega arith) refl refl refl (omega arith)

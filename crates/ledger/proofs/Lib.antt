@@ -11,3 +11,4 @@ pub mod Standing
 pub mod Theorems
 pub mod Turn
 pub mod Alive
+pub mod Turns

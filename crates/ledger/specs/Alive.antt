@@ -83,15 +83,46 @@ pub record WakeIsTrue (m : Machine) (t : Turn) : Type 0 where
   pub delivers : let x = closed (after m (byWake ++ measured t)) (t .lent) in
       Delivers (m .ledger .begun + 1) (m .ledger .delivered + 1) (m .device .codes) t (x .0) (x .1)
 
--- turn after turn: each conversion begins by a write, or each by a wake
+-- ---- turn after turn, from the fresh state
+
+-- its byte for F4 asks for forced mode, 1 or 2
+pub record IsForced (t : Turn) : Type 0 where
+  pub not-sleep : t .f4 % 4 ≡ 0 → ⊥
+  pub not-normal : t .f4 % 4 ≡ 3 → ⊥
+
+-- in forced mode each conversion begins by a write
 abbrev pub forcedTurns : List Turn → List Event
 forcedTurns [] = []
 forcedTurns (t ∷ ts) = byWrite t ++ measured t ++ Close (t .lent) ∷ forcedTurns ts
 
+abbrev pub AllForced : List Turn → Type 0
+AllForced [] = Unit {0}
+AllForced (t ∷ ts) = Fits t × IsForced t × AllForced ts
+
+-- in normal mode the first begins by a write and each later one by a wake
 abbrev pub wokenTurns : List Turn → List Event
 wokenTurns [] = []
 wokenTurns (t ∷ ts) = byWake ++ measured t ++ Close (t .lent) ∷ wokenTurns ts
 
+abbrev pub normalTurns : Turn → List Turn → List Event
+normalTurns t ts = byWrite t ++ measured t ++ Close (t .lent) ∷ wokenTurns ts
+
+abbrev pub AllFit : List Turn → Type 0
+AllFit [] = Unit {0}
+AllFit (t ∷ ts) = Fits t × AllFit ts
+
 -- n have begun, all are delivered, and nothing else is counted
 abbrev pub allDelivered : ℕ → Ledger
 allDelivered n = record { begun = n; delivered = n; overwritten = 0; abandoned = 0; standing = 0 }
+
+-- After n turns the tally is theirs; and the next turn's close shows its own conversion, as number n + 1.
+pub record ForcedTurnsAreTrue (m : Machine) (n : ℕ) : Type 0 where
+  pub tally-is : m .ledger ≡ allDelivered n
+  pub next-is : (t : Turn) → Fits t → IsForced t → n < reg.mostBegun → let x = closed (after m (byWrite t ++ measured t)) (t .lent) in
+      Delivers (n + 1) (n + 1) (codesOf t) t (x .0) (x .1)
+
+-- in normal mode with the codes that the first turn set
+pub record NormalTurnsAreTrue (m : Machine) (n : ℕ) (c : Codes) : Type 0 where
+  pub tally-is : m .ledger ≡ allDelivered n
+  pub next-is : (t : Turn) → Fits t → n < reg.mostBegun → let x = closed (after m (byWake ++ measured t)) (t .lent) in
+      Delivers (n + 1) (n + 1) c t (x .0) (x .1)
