@@ -2,7 +2,7 @@
 use Prim.Native.Nat.{ℕ, _+_, _%_, _≤_, _<_}
 use mathlib.Core.Path.{_≡_, refl, sym, ap, _∙_, subst}
 use mathlib.Core.Bool.{Bool, true, false}
-use mathlib.Core.List.{List, [], _++_}
+use mathlib.Core.List.{List}
 use native.Mathlib.Omega.{arith}
 use Rattle.paper.specs.Registers as reg
 use Rattle.machine.specs.declared.Phase.the-variants.{Sleep, Standby}
@@ -22,9 +22,10 @@ use Rattle.ledger.specs.Told.{history}
 use Rattle.ledger.specs.Alive.{Turn, Fits, codesOf, byWrite, byWake, measured, Begins, Delivers, WriteIsTrue, WakeIsTrue}
 use Rattle.ledger.proofs.Book.{nonzero-pos}
 use Rattle.ledger.proofs.Right.{none-waits}
-use Rattle.ledger.proofs.Kept.{Kept, kept}
+use Rattle.ledger.proofs.Kept.{kept}
 use Rattle.ledger.proofs.Theorems.{counts-are-true}
-use Rattle.ledger.proofs.Turn.{passed, begun, controlledBy, mode-runs, write-begins, wake-begins, read-from, closes}
+use Rattle.ledger.proofs.Tests.{passed}
+use Rattle.ledger.proofs.Turn.{begun, controlledBy, mode-runs, write-begins, wake-begins, read-from, closes}
 
 -- ---- the close of a turn
 

@@ -1,7 +1,7 @@
 -- The machine seen as a book: each of its steps is an entry. No count is cut, for with room below the limit none can reach it.
-use Prim.Native.Nat.{ℕ, _+_, _-_, _≤_, _<_}
+use Prim.Native.Nat.{ℕ, _+_, _≤_, _<_}
 use mathlib.Core.Path.{_≡_, refl, ap, ap₂}
-use mathlib.Core.Bool.{Bool, true, false, not, _&&_, and-true, and-not-self}
+use mathlib.Core.Bool.{Bool, true, false, and-true, and-not-self}
 use mathlib.Core.List.{List}
 use native.Mathlib.Omega.{arith}
 use Rattle.paper.specs.Registers.{mostBegun}
@@ -10,7 +10,7 @@ use Rattle.machine.specs.declared.Conversion.{Conversion}
 use Rattle.machine.specs.declared.Device.{Device}
 use Rattle.machine.specs.declared.Ledger.{Ledger}
 use Rattle.machine.specs.declared.Machine.{Machine}
-use Rattle.machine.specs.Fields.{withDevice, withBurst, withShown, withWaiting, withLedger}
+use Rattle.machine.specs.Fields.{withDevice, withBurst, withWaiting, withLedger}
 use Rattle.machine.specs.State.{noConversion, freshWith, runs, isOpen, isThere, isUnread}
 use Rattle.machine.specs.Counts.{begunIf, deliveredIf, overwrittenIf, abandonedAll}
 use Rattle.machine.specs.Events.{reset, finishedOne, showing, keeping, landed, delivering, ended}

@@ -1,13 +1,13 @@
 -- What the open burst has given: the addresses from its first up to its next, so that the machine's test of a whole burst is the history's; and each data
 -- byte is of the conversion that the burst shows.
 use Prim.Native.Nat.{ℕ, zero, suc, _+_, _-_, _≤_, _<_}
-use mathlib.Core.Path.{_≡_, refl, sym, ap, _∙_}
+use mathlib.Core.Path.{_≡_, refl, sym, _∙_}
 use mathlib.Core.Bool.{Bool, true, false, _&&_, _||_, false≢true}
 use mathlib.Core.List.{List, [], _∷_}
 use native.Mathlib.Omega.{arith}
 use lib.Dec.{eqb, leb, ltb}
 use lib.ListN.{getD}
-use borrow.Author.Tests.{leb-true, ltb-true, le-leb, lt-leb, lt-ltb, le-ltb, eq-eqb, ne-eqb, eqb-true, eqb-false, leb-false, ltb-false}
+use borrow.Author.Tests.{leb-true, ltb-true, le-leb, lt-ltb, ne-eqb, eqb-true, eqb-false}
 use Rattle.paper.specs.Registers as reg
 use Rattle.machine.specs.declared.Burst.{Burst}
 use Rattle.machine.specs.declared.Burst.the-variants.{Closed, Open}
@@ -16,20 +16,7 @@ use Rattle.machine.specs.State.{isOpen}
 use Rattle.machine.specs.Data.{isData, register}
 use Rattle.machine.specs.Events.{isWhole}
 use Rattle.ledger.specs.History.{Happening, givenIn, hasAddress, eachBelow, wholeIn}
-
--- two tests that hold in the same cases
-pub same-test : (a b : Bool) → (a ≡ true → b ≡ true) → (b ≡ true → a ≡ true) → a ≡ b
-same-test true b f g = sym (f refl)
-same-test false true f g = g refl
-same-test false false f g = refl
-
-pub and-left : (a b : Bool) → a && b ≡ true → a ≡ true
-and-left true b e = refl
-and-left false b e = absurd (false≢true e)
-
-pub and-right : (a b : Bool) → a && b ≡ true → b ≡ true
-and-right true b e = e
-and-right false b e = absurd (false≢true e)
+use Rattle.ledger.proofs.Tests.{same-test, both, and-left, and-right}
 
 -- ---- addresses from i up to j
 
@@ -37,7 +24,7 @@ abbrev within : ℕ → ℕ → ℕ → Bool
 within i j a = leb i a && ltb a j
 
 within-from : (i j a : ℕ) → i ≤ a → a < j → within i j a ≡ true
-within-from i j a l u = rw (le-leb i a l, lt-ltb a j u)
+within-from i j a l u = both (leb i a) (ltb a j) (le-leb i a l) (lt-ltb a j u)
 
 within-low : (i j a : ℕ) → within i j a ≡ true → i ≤ a
 within-low i j a e = leb-true i a (and-left (leb i a) (ltb a j) e)
@@ -84,7 +71,7 @@ each-at (suc n) f e k l = at (eqb k n) refl (each-at n f (and-right (f n) (eachB
     at false q i = let z = eqb-false k n q in i (omega arith)
 
 -- the machine's test of a burst from i, next at j
-pub spans-whole : (i j : ℕ) (h : List Happening) → Spans i j (givenIn h) → isWhole (Open i j) ≡ wholeIn h
+spans-whole : (i j : ℕ) (h : List Happening) → Spans i j (givenIn h) → isWhole (Open i j) ≡ wholeIn h
 unfolding wholeIn
 spans-whole i j h s = same-test (isWhole (Open i j)) (eachBelow reg.dataLength f) all ends
   where
@@ -101,7 +88,7 @@ spans-whole i j h s = same-test (isWhole (Open i j)) (eachBelow reg.dataLength f
     ends e =
         let low = within-low i j reg.firstData (sym (s .given-is reg.firstData) ∙ each-at reg.dataLength f e 0 (omega arith)) in
         let high = within-high i j reg.lastData (sym (s .given-is reg.lastData) ∙ each-at reg.dataLength f e 7 (omega arith)) in
-        rw (le-leb i reg.firstData low, lt-ltb reg.lastData j high)
+        both (leb i reg.firstData) (ltb reg.lastData j) (le-leb i reg.firstData low) (lt-ltb reg.lastData j high)
 
 pub whole-is : (b : Burst) (h : List Happening) → isOpen b ≡ true → Spanned b (givenIn h) → isWhole b ≡ wholeIn h
 whole-is Closed h o s = absurd (false≢true o)

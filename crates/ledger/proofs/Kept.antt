@@ -7,7 +7,6 @@ use native.Mathlib.Omega.{arith}
 use lib.ListN.{getD}
 use Rattle.laws.specs.Choices.{pick}
 use Rattle.paper.specs.Registers as reg
-use Rattle.machine.specs.declared.Burst.{Burst}
 use Rattle.machine.specs.declared.Burst.the-variants.{Closed, Open}
 use Rattle.machine.specs.declared.Conversion.{Conversion}
 use Rattle.machine.specs.declared.Device.{Device}
@@ -17,10 +16,10 @@ use Rattle.machine.specs.Fields.{withDevice, withBurst, withLedger}
 use Rattle.machine.specs.State as state
 use Rattle.machine.specs.State.{runs, isOpen, isThere, isUnread}
 use Rattle.machine.specs.Counts.{begunIf, deliveredIf}
-use Rattle.machine.specs.Data.{isData, register}
-use Rattle.machine.specs.Events.{reset, finishedOne, showing, keeping, landed, isWhole, delivering, ended}
+use Rattle.machine.specs.Data.{register}
+use Rattle.machine.specs.Events.{reset, showing, keeping, isWhole, delivering, ended}
 use Rattle.machine.specs.Event.{Event, next, after}
-use Rattle.ledger.specs.History.{Happening, began, finished, lost, opened, gave, closed, openIn, givenIn, wholeIn, Reading, shownBy, bit}
+use Rattle.ledger.specs.History.{Happening, began, finished, lost, opened, gave, closed, givenIn, wholeIn, Reading, shownBy, bit}
 use Rattle.ledger.specs.Told.{told, toldAfter, history}
 use Rattle.ledger.specs.Statements.{AreOf}
 use Rattle.ledger.proofs.Book as bk
@@ -28,7 +27,7 @@ use Rattle.ledger.proofs.Book.{Book, nonzero, nonzero-pos, enter, Asks}
 use Rattle.ledger.proofs.Right.{Right, right-fresh, right-enter, none-waits}
 use Rattle.ledger.proofs.Named.{Names, names-fresh, names-enter}
 use Rattle.ledger.proofs.Entries.{book, busy, Tidy, enters-lost, enters-began, enters-finished, enters-partial, enters-whole}
-use Rattle.ledger.proofs.Given.{Spans, Spanned, spans-opened, spans-gave, whole-is, register-data}
+use Rattle.ledger.proofs.Given.{Spanned, spans-opened, spans-gave, whole-is, register-data}
 use Rattle.ledger.proofs.Walk.{Steps, lands, overwritten-begun, walk}
 
 -- the book's counts and conversions, its numbers, what the machine has besides, and what the open burst has given

@@ -1,7 +1,7 @@
 -- The book is right about the history: its counts are the tally's, and what it shows and has waiting are the conversions that the history says.
-use Prim.Native.Nat.{ℕ, _+_, _≤_}
+use Prim.Native.Nat.{_+_, _≤_}
 use mathlib.Core.Path.{_≡_, refl, sym, ap, ap₂, _∙_}
-use mathlib.Core.Bool.{Bool, true, false, cond, _&&_, false≢true}
+use mathlib.Core.Bool.{Bool, true, false, cond, false≢true}
 use mathlib.Core.List.{List, [], _∷_}
 use native.Mathlib.Omega.{arith}
 use Rattle.ledger.specs.History.{Happening, began, finished, lost, opened, gave, closed, begunIn, codesIn, openIn, wholeIn, waitsIn, Reading, lastFinished, shownBy, bit}
@@ -9,7 +9,7 @@ use Rattle.ledger.proofs.Tally.{Counts, counts, same, add, oneRuns, flo
 use Rattle.ledger.proofs.Book.{Book, nonzero, nonzero-pos, some, unread, latest, fresh, enter, Asks, runs, unread-whole, unread-partial}
 
 -- the conversion that is shown, in a burst or not
-abbrev pub shownNow : List Happening → Reading
+abbrev shownNow : List Happening → Reading
 shownNow h = cond (openIn h) (shownBy h) (lastFinished h)
 
 -- u: one is running

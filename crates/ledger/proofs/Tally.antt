@@ -46,7 +46,7 @@ one Delivered = counts 1 0 0 0 0 0
 one Overwritten = counts 0 1 0 0 0 0
 one Abandoned = counts 0 0 1 0 0 0
 
-abbrev pub tally : ℕ → List Happening → Counts
+abbrev tally : ℕ → List Happening → Counts
 tally zero h = nought
 tally (suc n) h = add (one (fate h (suc n))) (tally n h)
 

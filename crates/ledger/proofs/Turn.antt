@@ -14,7 +14,6 @@ use Rattle.machine.specs.declared.Held.{Held}
 use Rattle.machine.specs.declared.Held.the-variants.{Nothing}
 use Rattle.machine.specs.declared.Burst.{Burst}
 use Rattle.machine.specs.declared.Burst.the-variants as burst
-use Rattle.machine.specs.declared.Conversion.{Conversion}
 use Rattle.machine.specs.declared.Device.{Device}
 use Rattle.machine.specs.declared.Machine.{Machine}
 use Rattle.machine.specs.declared.Outcome.{Outcome}
@@ -23,13 +22,10 @@ use Rattle.machine.specs.State.{runs, isOpen}
 use Rattle.machine.specs.Counts.{isBarred, begunIf}
 use Rattle.machine.specs.Control.{entered, controlled, effect, heldBegins, heldEffect}
 use Rattle.machine.specs.Data.{inRange, stored}
-use Rattle.machine.specs.Events.{answered, mayFinish, rested, finishedOne, showing, keeping, landed, converted, awake, wholeClosing, closing, closed}
-use Rattle.machine.specs.Event.{Event, Finish, Wake, Open, Byte, next, after}
+use Rattle.machine.specs.Events.{answered, mayFinish, rested, finishedOne, showing, keeping, landed, converted, awake, wholeClosing, closed}
+use Rattle.machine.specs.Event.{Finish, Wake, Open, Byte, next, after}
 use Rattle.ledger.specs.Alive.{Turn, Fits, byWrite, measured}
-
--- a choice by a test that is decided
-pub passed : {A : Type 0} (b : Bool) (x y : A) → b ≡ false → cond b x y ≡ y
-passed b x y e = rw e
+use Rattle.ledger.proofs.Tests.{passed}
 
 -- ---- it begins
 
@@ -89,7 +85,7 @@ module _ (m : Machine) (t : Turn) where
   bytes = stored (m .device) (t .temperature) (t .pressure) (t .humidity)
 
   -- the conversion is shown, and the device rests
-  abbrev pub done-with : Machine
+  abbrev done-with : Machine
   done-with = withDevice (rested (m .device)) (showing (finishedOne m bytes) m)
 
   abbrev pub read-from : Machine
@@ -111,7 +107,7 @@ module _ (m : Machine) (t : Turn) where
         → after k (Open reg.firstData ∷ Byte ∷ Byte ∷ Byte ∷ Byte ∷ Byte ∷ Byte ∷ Byte ∷ Byte ∷ []) ≡ withBurst (burst.Open reg.firstData reg.lastRegister) k
     reads k e = ap (λ (q : Burst). after (withBurst q k) (Open reg.firstData ∷ Byte ∷ Byte ∷ Byte ∷ Byte ∷ Byte ∷ Byte ∷ Byte ∷ Byte ∷ [])) e
 
-    pub measures : after m (measured t) ≡ read-from
+    measures : after m (measured t) ≡ read-from
     unfolding showing
     measures = ap (λ (k : Machine). after k (Open reg.firstData ∷ Byte ∷ Byte ∷ Byte ∷ Byte ∷ Byte ∷ Byte ∷ Byte ∷ Byte ∷ [])) finishes ∙ reads done-with b
 

@@ -1,7 +1,7 @@
 -- Turn after turn from the fresh state, in forced mode and in normal mode: the tally is theirs, and each close shows its own conversion.
-use Prim.Native.Nat.{ℕ, zero, suc, _+_, _%_, _≤_, _<_}
+use Prim.Native.Nat.{ℕ, _+_, _%_, _≤_, _<_}
 use mathlib.Core.Path.{_≡_, refl, sym, ap, _∙_, subst}
-use mathlib.Core.Bool.{Bool, true, false, not, cond, _&&_, and-not-self}
+use mathlib.Core.Bool.{Bool, true, false, cond, and-not-self}
 use mathlib.Core.List.{List, [], _∷_, _++_}
 use native.Mathlib.Omega.{arith}
 use lib.Dec.{eqb}
@@ -23,7 +23,7 @@ use Rattle.machine.specs.State.{fresh, noConversion, runs, isForced, isThere, i
 use Rattle.machine.specs.Counts.{begunIf, deliveredIf, overwrittenIf}
 use Rattle.machine.specs.Control.{entered}
 use Rattle.machine.specs.Events.{rested, showing, delivering, wholeClosing, awake, closed}
-use Rattle.machine.specs.Event.{Event, Copied, Close, next, after}
+use Rattle.machine.specs.Event.{Copied, Close, next, after}
 use Rattle.ledger.specs.Alive.{Turn, Fits, IsForced, codesOf, byWrite, byWake, measured, Delivers, forcedTurns, AllForced, wokenTurns, normalTurns, AllFit, allDelivered, ForcedTurnsAreTrue, NormalTurnsAreTrue}
 use Rattle.ledger.proofs.Book.{same-ledger}
 use Rattle.ledger.proofs.Turn.{begun, controlledBy, mode-runs, write-begins, wake-begins, read-from, closes}

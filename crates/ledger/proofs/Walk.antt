@@ -22,7 +22,7 @@ use Rattle.machine.specs.declared.Machine.{Machine}
 use Rattle.machine.specs.declared.Outcome.{Outcome}
 use Rattle.machine.specs.declared.Given.{Given}
 use Rattle.machine.specs.declared.Closing.{Closing}
-use Rattle.machine.specs.Fields.{withPhase, withCopying, withF2, withF4, withF5, withHeld, withDevice, withBurst, withLedger}
+use Rattle.machine.specs.Fields.{withCopying, withF2, withF5, withHeld, withDevice, withBurst, withLedger}
 use Rattle.machine.specs.State.{runs, isForced, sleeps, standsBy, isHeld, isOpen, isUnread}
 use Rattle.machine.specs.Counts.{isBarred, begunIf, overwrittenIf}
 use Rattle.machine.specs.Control.{inPhase, begins, controlled, effect, heldBegins, heldEffect}
