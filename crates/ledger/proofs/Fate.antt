@@ -7,7 +7,7 @@ use native.Mathlib.Omega.{arith}
 use lib.Dec.{eqb, eqb·zero-suc}
 use borrow.Author.Tests.{eqb-true, ne-eqb}
 use Rattle.ledger.specs.History.{Happening, began, finished, lost, opened, gave, closed, begunIn, openIn, wholeIn, waitsIn}
-use Rattle.ledger.specs.History.{Where, unbegun, running, waiting, shown, gone, finishes, closes, loses, whereIs, isShown, isBegun, isPresent, isLoss, isClose, replaces}
+use Rattle.ledger.specs.History.{Where, unbegun, running, waiting, shown, gone, finishes, closes, loses, whereIs, isShown, isBegun, isPresent, isLoss, delivers, finds, replaces}
 use Rattle.ledger.specs.History.{delivered, abandoned, overwritten, lostSince, standing}
 
 -- running, waiting; shown, undelivered or delivered; gone, delivered, overwritten or abandoned
@@ -58,10 +58,10 @@ moved closed o w n p = closes w p
 
 abbrev sees : Happening → Bool → Bool → Bool → Bool → Sight → Sight
 sees x o g w n s =
-    let d = s .delivered || (isClose x && (g && isShown (s .at))) in
+    let d = s .delivered || delivers x g (s .at) in
     sight (moved x o w n (s .at)) d
     (s .overwritten || (replaces x o w (s .at) && not d))
-    (s .abandoned || (isLoss x && (isPresent (s .at) && not (s .delivered))))
+    (s .abandoned || (finds x (s .at) && not (s .delivered)))
 
 seen-more : (x : Happening) (h : List Happening) (k : ℕ) → seen (x ∷ h) k ≡ sees x (openIn h) (wholeIn h) (waitsIn h) (eqb k (suc (begunIn h))) (seen h k)
 seen-more (began c) h k = refl

@@ -15,7 +15,7 @@ use Rattle.machine.specs.declared.Machine.{Machine}
 use Rattle.machine.specs.State.{isOpen}
 use Rattle.machine.specs.Data.{isData, register}
 use Rattle.machine.specs.Events.{isWhole}
-use Rattle.ledger.specs.History.{Happening, givenIn, hasAddress, eachBelow, wholeIn}
+use Rattle.ledger.specs.History.{Happening, givenIn, hasAddress, eachBelow, gaveData, wholeIn}
 use Rattle.ledger.proofs.Tests.{same-test, both, and-left, and-right}
 
 -- ---- addresses from i up to j
@@ -73,21 +73,18 @@ each-at (suc n) f e k l = at (eqb k n) refl (each-at n f (and-right (f n) (eachB
 -- the machine's test of a burst from i, next at j
 spans-whole : (i j : ℕ) (h : List Happening) → Spans i j (givenIn h) → isWhole (Open i j) ≡ wholeIn h
 unfolding wholeIn
-spans-whole i j h s = same-test (isWhole (Open i j)) (eachBelow reg.dataLength f) all ends
+spans-whole i j h s = same-test (isWhole (Open i j)) (eachBelow reg.dataLength (gaveData h)) all ends
   where
-    f : ℕ → Bool
-    f k = hasAddress (reg.firstData + k) (givenIn h)
-
-    all : isWhole (Open i j) ≡ true → eachBelow reg.dataLength f ≡ true
+    all : isWhole (Open i j) ≡ true → eachBelow reg.dataLength (gaveData h) ≡ true
     all e =
         let low = leb-true i reg.firstData (and-left (leb i reg.firstData) (ltb reg.lastData j) e) in
         let high = ltb-true reg.lastData j (and-right (leb i reg.firstData) (ltb reg.lastData j) e) in
-        each-from reg.dataLength f (λ k l. s .given-is (reg.firstData + k) ∙ within-from i j (reg.firstData + k) (omega arith) (omega arith))
+        each-from reg.dataLength (gaveData h) (λ k l. s .given-is (reg.firstData + k) ∙ within-from i j (reg.firstData + k) (omega arith) (omega arith))
 
-    ends : eachBelow reg.dataLength f ≡ true → isWhole (Open i j) ≡ true
+    ends : eachBelow reg.dataLength (gaveData h) ≡ true → isWhole (Open i j) ≡ true
     ends e =
-        let low = within-low i j reg.firstData (sym (s .given-is reg.firstData) ∙ each-at reg.dataLength f e 0 (omega arith)) in
-        let high = within-high i j reg.lastData (sym (s .given-is reg.lastData) ∙ each-at reg.dataLength f e 7 (omega arith)) in
+        let low = within-low i j reg.firstData (sym (s .given-is reg.firstData) ∙ each-at reg.dataLength (gaveData h) e 0 (omega arith)) in
+        let high = within-high i j reg.lastData (sym (s .given-is reg.lastData) ∙ each-at reg.dataLength (gaveData h) e 7 (omega arith)) in
         both (leb i reg.firstData) (ltb reg.lastData j) (le-leb i reg.firstData low) (lt-ltb reg.lastData j high)
 
 pub whole-is : (b : Burst) (h : List Happening) → isOpen b ≡ true → Spanned b (givenIn h) → isWhole b ≡ wholeIn h

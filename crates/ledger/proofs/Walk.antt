@@ -1,7 +1,7 @@
 -- The one walk over the rules of the eight events: each is refused, or goes by the machine's steps. What a predicate says of the steps it says of every
 -- event, so that a change of the rules is met here alone.
 use Prim.Native.Nat.{ℕ, _+_, _*_, _/_, _%_, _<_}
-use mathlib.Core.Path.{_≡_, refl, sym, _∙_}
+use mathlib.Core.Path.{_≡_, refl, sym, _∙_, subst}
 use mathlib.Core.Bool.{Bool, true, false, not, cond, false≢true}
 use mathlib.Core.List.{List, [], _∷_, _++_}
 use lib.Dec.{eqb, ltb}
@@ -162,13 +162,14 @@ module _ (P : Machine → ℕ → Machine → List Happening → Type 0) (s : St
         pick Q (not (standsBy (m .device .phase))) (λ _. no wrongPhase refl) λ y.
         pick Q (isBarred true (m .ledger)) (λ _. no allBegun refl) λ f.
         let i : busy m ≡ false = standing-by (m .device .phase) (not-false (standsBy (m .device .phase)) y) in
-        rw i (s .begins m (inPhase Normal (m .device)) i refl (leb-false reg.mostBegun (m .ledger .begun) f))
+        subst (λ (ran : Bool). P m done (ev.awake m) (beginning ran (ev.awake m .device))) (sym i)
+        (s .begins m (inPhase Normal (m .device)) i refl (leb-false reg.mostBegun (m .ledger .begun) f))
 
     by-byte : (b : Burst) → m .burst ≡ b
         → let g = ev.byteOf b m in P m (g .answer) (g .machine) (cond (eqb (g .answer) done) (gave (addressOf b) (g .value) ∷ []) [])
     by-byte burst.Closed e = no wrongPhase refl
     by-byte (burst.Open first at) e =
-        pick (λ (g : Given). P m (g .answer) (g .machine) (cond (eqb (g .answer) done) (gave at (g .value) ∷ []) []))
+        pick (λ (g : Given). P m (g .answer) (g .machine) (cond (eqb (g .answer) done) (gave (addressOf (burst.Open first at)) (g .value) ∷ []) []))
         (ltb reg.lastRegister at) (λ _. no addressNotAllowed refl) (λ _. s .gives m first at e)
 
     by-close : (lent : List ℕ) → let c = ev.closed m lent in P m (c .0 .answer) (c .0 .machine) (cond (eqb (c .0 .answer) done) (closed ∷ []) [])

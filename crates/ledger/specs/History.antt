@@ -68,9 +68,13 @@ abbrev pub eachBelow : ℕ → (ℕ → Bool) → Bool
 eachBelow zero f = true
 eachBelow (suc n) f = f n && eachBelow n f
 
+-- the data byte i was given, counted from 0 at F7
+abbrev pub gaveData : List Happening → ℕ → Bool
+gaveData h i = hasAddress (reg.firstData + i) (givenIn h)
+
 -- whole: all of F7 to FE were given since it was opened
 unfoldable pub wholeIn : List Happening → Bool
-wholeIn h = eachBelow reg.dataLength (λ i. hasAddress (reg.firstData + i) (givenIn h))
+wholeIn h = eachBelow reg.dataLength (gaveData h)
 
 -- a conversion has finished since it was opened, and waits
 abbrev pub waitsIn : List Happening → Bool
@@ -205,6 +209,14 @@ isClose opened = false
 isClose (gave a v) = false
 isClose closed = true
 
+-- a closed burst, if it was whole (g), shows one at w
+abbrev pub delivers : Happening → Bool → Where → Bool
+delivers x g w = isClose x && (g && isShown w)
+
+-- a reset or power event finds one at w running, waiting or shown
+abbrev pub finds : Happening → Where → Bool
+finds x w = isLoss x && isPresent w
+
 -- A later finished one takes the place of one at w: at a finish the waiting one's, and the shown one's unless a burst is open (o); at a close the shown
 -- one's if one waits (u).
 abbrev pub replaces : Happening → Bool → Bool → Where → Bool
@@ -222,11 +234,11 @@ once test (x ∷ h) k = once test h k || test x h k
 
 -- Delivered: some whole closed burst showed it.
 abbrev pub delivered : List Happening → ℕ → Bool
-delivered = once (λ x h k. isClose x && (wholeIn h && isShown (whereIs h k)))
+delivered = once (λ x h k. delivers x (wholeIn h) (whereIs h k))
 
 -- Abandoned: not delivered before a reset or power event found it running, waiting or shown.
 abbrev pub abandoned : List Happening → ℕ → Bool
-abandoned = once (λ x h k. isLoss x && (isPresent (whereIs h k) && not (delivered h k)))
+abandoned = once (λ x h k. finds x (whereIs h k) && not (delivered h k))
 
 -- Overwritten: a later finished one replaced it while waiting or shown, undelivered.
 abbrev pub overwritten : List Happening → ℕ → Bool
