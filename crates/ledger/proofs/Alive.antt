@@ -16,7 +16,7 @@ use Rattle.machine.specs.Fields.{withBurst}
 use Rattle.machine.specs.State.{fresh, noConversion, runs, isOpen, isThere, isUnread}
 use Rattle.machine.specs.Counts.{begunIf, deliveredIf, overwrittenIf}
 use Rattle.machine.specs.Data.{stored}
-use Rattle.machine.specs.Events.{showing, delivering, ended, wholeClosing, awake, closed}
+use Rattle.machine.specs.Events.{showing, delivering, waitingShown, ended, wholeClosing, awake, closed}
 use Rattle.machine.specs.Event.{Event, after}
 use Rattle.ledger.specs.Told.{history}
 use Rattle.ledger.specs.Alive.{Turn, Fits, codesOf, byWrite, byWake, measured, Begins, Delivers, WriteIsTrue, WakeIsTrue}
@@ -31,6 +31,7 @@ use Rattle.ledger.proofs.Turn.{begun, controlledBy, mode-runs, write-be
 
 -- with none waiting only the burst ends
 ends : (m : Machine) → m .waiting ≡ noConversion → ended m ≡ withBurst Closed m
+unfolding waitingShown
 ends m w = ap (withBurst Closed) (passed (isThere (m .waiting)) _ m (ap isThere w))
 
 -- the mark of the shown conversion, and the counts

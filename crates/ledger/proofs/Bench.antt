@@ -7,8 +7,8 @@ use Rattle.paper.specs.Registers as reg
 use Rattle.machine.specs.declared.Codes.{Codes}
 use Rattle.machine.specs.State.{fresh}
 use Rattle.machine.specs.Control.{effect, heldEffect}
-use Rattle.machine.specs.Data.{inRange, stored, register}
-use Rattle.machine.specs.Events.{showing, keeping, delivering, closed}
+use Rattle.machine.specs.Data.{stored}
+use Rattle.machine.specs.Events.{showing, keeping, delivering, waitingShown, closed}
 use Rattle.machine.specs.Event.{Event, Copied, Write, Finish, Wake, Open, Byte, Close, after}
 use Rattle.machine.specs.Bench.{lent}
 use Rattle.ledger.specs.History.{Happening, began, finished, lost, opened, gave, wholeIn, delivered, overwritten, abandoned, standing}
@@ -47,7 +47,7 @@ k12 =
     hist.closed ∷ gave 0xFE 0x00 ∷ gave 0xFD 0x80 ∷ gave 0xFC 0x00 ∷ gave 0xFB 0xED ∷ gave 0xFA 0x7E ∷ gave 0xF9 0xC0 ∷ gave 0xF8 0x5A ∷ gave 0xF7 0x65 ∷ started
 
 K12-history : history (measuredTwice eight) ≡ k12
-unfolding effect heldEffect inRange stored register showing keeping delivering
+unfolding effect heldEffect stored showing keeping delivering waitingShown
 K12-history = refl
 
 -- the four fourPlaces of a conversion: delivered, overwritten, abandoned, standing
@@ -68,7 +68,7 @@ abbrev k13 : List Happening
 k13 = hist.closed ∷ gave 0xF9 0xC0 ∷ gave 0xF8 0x5A ∷ gave 0xF7 0x65 ∷ started
 
 K13-history : history (measuredTwice three) ≡ k13
-unfolding effect heldEffect inRange stored register showing keeping delivering
+unfolding effect heldEffect stored showing keeping delivering waitingShown
 K13-history = refl
 
 K13-first : fourPlaces k13 1 ≡ false ∷ true ∷ false ∷ false ∷ []
@@ -91,23 +91,23 @@ abbrev read : List Happening
 read = hist.closed ∷ gave 0xFE 0x00 ∷ gave 0xFD 0x80 ∷ gave 0xFC 0x10 ∷ gave 0xFB 0x00 ∷ gave 0xFA 0x00 ∷ gave 0xF9 0x20 ∷ gave 0xF8 0x00 ∷ gave 0xF7 0x00 ∷ opened ∷ []
 
 worked-history : history worked ≡ lost ∷ began codes ∷ [] ++ read ++ read ++ k12
-unfolding effect heldEffect inRange stored register showing keeping delivering
+unfolding effect heldEffect stored showing keeping delivering waitingShown
 worked-history = refl
 
 worked-second : fourPlaces (history worked) 2 ≡ true ∷ false ∷ false ∷ false ∷ []
-unfolding effect heldEffect inRange stored register showing keeping delivering wholeIn
+unfolding effect heldEffect stored showing keeping delivering waitingShown wholeIn
 worked-second = refl
 
 worked-third : fourPlaces (history worked) 3 ≡ false ∷ false ∷ true ∷ false ∷ []
-unfolding effect heldEffect inRange stored register showing keeping delivering wholeIn
+unfolding effect heldEffect stored showing keeping delivering waitingShown wholeIn
 worked-third = refl
 
 -- the kept counts
 worked-ledger : after fresh worked .ledger ≡ record { begun = 3; delivered = 2; overwritten = 0; abandoned = 1; standing = 0 }
-unfolding effect heldEffect inRange stored register showing keeping delivering
+unfolding effect heldEffect stored showing keeping delivering waitingShown
 worked-ledger = refl
 
 -- the second burst of number 2 says that it was delivered before
 worked-repeat : closed (after fresh (measuredTwice eight ++ burst ++ Open reg.firstData ∷ [] ++ eight)) lent .0 .delivered ≡ true
-unfolding effect heldEffect inRange stored register showing keeping delivering
+unfolding effect heldEffect stored showing keeping delivering waitingShown
 worked-repeat = refl

@@ -13,7 +13,7 @@ use Rattle.machine.specs.declared.Machine.{Machine}
 use Rattle.machine.specs.Fields.{withDevice, withBurst, withWaiting, withLedger}
 use Rattle.machine.specs.State.{noConversion, freshWith, runs, isOpen, isThere, isUnread}
 use Rattle.machine.specs.Counts.{begunIf, deliveredIf, overwrittenIf, abandonedAll}
-use Rattle.machine.specs.Events.{reset, finishedOne, showing, keeping, landed, delivering, ended}
+use Rattle.machine.specs.Events.{reset, finishedOne, showing, keeping, landed, delivering, waitingShown, ended}
 use Rattle.ledger.specs.History.{Happening, began, finished, lost, closed, Reading, bit}
 use Rattle.ledger.proofs.Book.{Book, enter, same-ledger, begins, delivers, overwrites, abandons}
 use Rattle.ledger.proofs.Right.{Right, right-sum}
@@ -78,7 +78,7 @@ module _ (m : Machine) (h : List Happening) (t : Tidy m) (r : Right (busy m) (bo
       at false e = rw (e, q, t .none-waits (idle e), overwritten-more (isUnread (m .shown)) (m .ledger) (omega (arith, t .small, sum, r .standing-is)), e)
 
   pub enters-partial : book (ended m) ≡ enter closed false (book m)
-  unfolding showing
+  unfolding showing waitingShown
   enters-partial = at (isThere (m .waiting)) refl
     where
       at : (w : Bool) → isThere (m .waiting) ≡ w → book (ended m) ≡ enter closed false (book m)
@@ -86,7 +86,7 @@ module _ (m : Machine) (h : List Happening) (t : Tidy m) (r : Right (busy m) (bo
       at false e = rw e (ap₂ (λ (w : Conversion) (l : Ledger). book (withBurst Closed (withWaiting w (withLedger l m)))) (t .none-waits e) (overwritten-none (m .ledger)))
 
   pub enters-whole : book (ended (delivering m)) ≡ enter closed true (book m)
-  unfolding showing delivering
+  unfolding showing delivering waitingShown
   enters-whole = at (isThere (m .waiting)) refl
     where
       more : deliveredIf (isUnread (m .shown)) (m .ledger) ≡ delivers (bit (isUnread (m .shown))) (m .ledger)

@@ -7,7 +7,7 @@ use native.Mathlib.Omega.{arith}
 use lib.Dec.{eqb, eqb·zero-suc}
 use borrow.Author.Tests.{eqb-true, ne-eqb}
 use Rattle.ledger.specs.History.{Happening, began, finished, lost, opened, gave, closed, begunIn, openIn, wholeIn, waitsIn}
-use Rattle.ledger.specs.History.{Where, unbegun, running, waiting, shown, gone, finishes, closes, loses, whereIs, isShown, isBegun, isPresent, isLoss, delivers, finds, replaces}
+use Rattle.ledger.specs.History.{Where, unbegun, running, waiting, shown, gone, finishes, closes, loses, whereIs, isBegun, isPresent, isLoss, delivers, finds, replaces}
 use Rattle.ledger.specs.History.{delivered, abandoned, overwritten, lostSince, standing}
 
 -- running, waiting; shown, undelivered or delivered; gone, delivered, overwritten or abandoned

@@ -7,13 +7,13 @@ use mathlib.Core.List.{List, [], _∷_}
 use native.Mathlib.Omega.{arith}
 use lib.Dec.{eqb, leb, ltb}
 use lib.ListN.{getD}
-use borrow.Author.Tests.{leb-true, ltb-true, le-leb, lt-ltb, ne-eqb, eqb-true, eqb-false}
+use borrow.Author.Tests.{leb-true, ltb-true, le-leb, lt-ltb, le-ltb, ne-eqb, eqb-true, eqb-false}
 use Rattle.paper.specs.Registers as reg
 use Rattle.machine.specs.declared.Burst.{Burst}
 use Rattle.machine.specs.declared.Burst.the-variants.{Closed, Open}
 use Rattle.machine.specs.declared.Machine.{Machine}
 use Rattle.machine.specs.State.{isOpen}
-use Rattle.machine.specs.Data.{isData, register}
+use Rattle.machine.specs.Data.{register}
 use Rattle.machine.specs.Events.{isWhole}
 use Rattle.ledger.specs.History.{Happening, givenIn, hasAddress, eachBelow, gaveData, wholeIn}
 use Rattle.ledger.proofs.Tests.{same-test, both, and-left, and-right}
@@ -93,15 +93,14 @@ whole-is (Open i j) h o s = spans-whole i j h s
 
 -- ---- the bytes
 
-pub register-data : (a : ℕ) (m : Machine) → isData a ≡ true → register a m ≡ getD (m .shown .bytes) (a - reg.firstData) 0
-unfolding register
-register-data a m e =
-    let low : reg.firstData ≤ a = leb-true reg.firstData a (and-left (leb reg.firstData a) (leb a reg.lastData) e) in
+pub register-data : (a : ℕ) (m : Machine) → reg.firstData ≤ a → a ≤ reg.lastData → register a m ≡ getD (m .shown .bytes) (a - reg.firstData) 0
+register-data a m l u =
     rw (
       ne-eqb a reg.chipId (λ e. omega arith),
       ne-eqb a reg.ctrlHum (λ e. omega arith),
       ne-eqb a reg.status (λ e. omega arith),
       ne-eqb a reg.ctrlMeas (λ e. omega arith),
       ne-eqb a reg.config (λ e. omega arith),
-      e,
+      le-ltb a reg.firstData l,
+      le-ltb reg.lastData a u,
     )

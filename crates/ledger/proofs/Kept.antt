@@ -17,7 +17,7 @@ use Rattle.machine.specs.State as state
 use Rattle.machine.specs.State.{runs, isOpen, isThere, isUnread}
 use Rattle.machine.specs.Counts.{begunIf, deliveredIf}
 use Rattle.machine.specs.Data.{register}
-use Rattle.machine.specs.Events.{reset, showing, keeping, isWhole, delivering, ended}
+use Rattle.machine.specs.Events.{reset, showing, keeping, isWhole, delivering, waitingShown, ended}
 use Rattle.machine.specs.Event.{Event, next, after}
 use Rattle.ledger.specs.History.{Happening, began, finished, lost, opened, gave, closed, givenIn, wholeIn, Reading, shownBy, bit}
 use Rattle.ledger.specs.Told.{told, toldAfter, history}
@@ -146,14 +146,14 @@ kept-gave m i j h e k =
     enters (gave j (register j m)) m (withBurst (Open i (j + 1)) m) h open-is refl (rw open-is)
     (record { small = t .small; none-shown = t .none-shown; none-waits = t .none-waits; unread-waits = t .unread-waits })
     (spans-gave i j (register j m) (givenIn h) (rw e at (k .spanned)))
-    (λ q. register-data j m q ∙ ap (λ (c : Reading). getD (c .bytes) (j - reg.firstData) 0) shown-is, k .given) k
+    (λ q w. register-data j m q w ∙ ap (λ (c : Reading). getD (c .bytes) (j - reg.firstData) 0) shown-is, k .given) k
 
 ended-device : (m : Machine) → ended m .device ≡ m .device
-unfolding showing
+unfolding showing waitingShown
 ended-device m = pick (λ (n : Machine). n .device ≡ m .device) (isThere (m .waiting)) (λ _. refl) (λ _. refl)
 
 tidy-ended : (m : Machine) → Tidy m → Tidy (ended m)
-unfolding showing
+unfolding showing waitingShown
 tidy-ended m t =
     pick (λ (n : Machine). Tidy (withBurst Closed n)) (isThere (m .waiting))
     (λ _. record {

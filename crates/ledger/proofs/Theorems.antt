@@ -13,7 +13,7 @@ use Rattle.paper.specs.Registers as reg
 use Rattle.machine.specs.declared.Closing.{Closing}
 use Rattle.machine.specs.declared.Machine.{Machine}
 use Rattle.machine.specs.State.{fresh, isOpen}
-use Rattle.machine.specs.Events.{isWhole, ended, closing, wholeClosing, closed}
+use Rattle.machine.specs.Events.{isWhole, ended, emptyClosing, wholeClosing, closed}
 use Rattle.machine.specs.Event.{Event, answer, after}
 use Rattle.machine.specs.Refused.{refused}
 use Rattle.ledger.specs.History.{Happening, Reading, wholeIn, shownBy}
@@ -71,7 +71,7 @@ module _ (m : Machine) (h : List Happening) (k : Kept m h) (lent : List ℕ) whe
   abbrev Is : Closing × List ℕ → Type 0
   Is c = CloseIsTrue (c .0) (c .1) lent h
 
-  nothing : (n : ℕ) (l : Machine) → eqb n done && wholeIn h ≡ false → Is (closing n l, lent)
+  nothing : (n : ℕ) (l : Machine) → eqb n done && wholeIn h ≡ false → Is (emptyClosing n l, lent)
   nothing n l e = record {
     whole-is = sym e;
     whole-shows = λ z. absurd (false≢true z);

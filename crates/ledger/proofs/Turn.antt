@@ -20,7 +20,7 @@ use Rattle.machine.specs.declared.Outcome.{Outcome}
 use Rattle.machine.specs.Fields.{withPhase, withCopying, withF2, withDevice, withBurst, withLedger}
 use Rattle.machine.specs.State.{runs, isOpen}
 use Rattle.machine.specs.Counts.{isBarred, begunIf}
-use Rattle.machine.specs.Control.{entered, controlled, effect, heldBegins, heldEffect}
+use Rattle.machine.specs.Control.{phaseAfter, controlled, effect, heldBegins, heldEffect}
 use Rattle.machine.specs.Data.{inRange, stored}
 use Rattle.machine.specs.Events.{answered, mayFinish, rested, finishedOne, showing, keeping, landed, converted, awake, wholeClosing, closed}
 use Rattle.machine.specs.Event.{Finish, Wake, Open, Byte, next, after}
@@ -38,7 +38,7 @@ abbrev pub controlledBy : Turn → Device → Device
 controlledBy t d = controlled (withF2 (t .f2 % 8) d) (t .f4)
 
 -- in sleep a byte of any mode but 0 leads to a conversion
-pub mode-runs : (v : ℕ) → (v % 4 ≡ 0 → ⊥) → runs (entered Sleep v) ≡ true
+pub mode-runs : (v : ℕ) → (v % 4 ≡ 0 → ⊥) → runs (phaseAfter Sleep v) ≡ true
 mode-runs v z = ap (λ (b : Bool). runs (cond b Sleep (cond (eqb (v % 4) 3) Normal Forced))) (ne-eqb (v % 4) 0 z) ∙ at (eqb (v % 4) 3)
   where
     at : (b : Bool) → runs (cond b Normal Forced) ≡ true
@@ -59,13 +59,13 @@ module _ (m : Machine) (t : Turn) (room : m .ledger .begun < reg.mostBegun) (mod
   abbrev f2-set : Machine
   f2-set = withDevice (withF2 (t .f2 % 8) (sleeper .device)) sleeper
 
-  free : isBarred (runs (entered Sleep (t .f4))) (m .ledger) ≡ false
+  free : isBarred (runs (phaseAfter Sleep (t .f4))) (m .ledger) ≡ false
   free = ap (λ (b : Bool). isBarred b (m .ledger)) (mode-runs (t .f4) mode) ∙ lt-leb reg.mostBegun (m .ledger .begun) room
 
   sleeper-begins : after sleeper (byWrite t) ≡ begun sleeper (controlledBy t (sleeper .device))
   unfolding effect
   sleeper-begins =
-      ap (λ (o : Outcome). o .machine) (passed (isBarred (runs (entered Sleep (t .f4))) (m .ledger)) (answered allBegun f2-set) (answered done (effect f2-set (t .f4))) free)
+      ap (λ (o : Outcome). o .machine) (passed (isBarred (runs (phaseAfter Sleep (t .f4))) (m .ledger)) (answered allBegun f2-set) (answered done (effect f2-set (t .f4))) free)
       ∙ ap (λ (b : Bool). withDevice (controlledBy t (sleeper .device)) (withLedger (begunIf b (m .ledger)) sleeper)) (mode-runs (t .f4) mode)
 
   pub write-begins : m .device .phase ≡ Sleep → m .device .copying ≡ false → m .burst ≡ burst.Closed → after m (byWrite t) ≡ begun m (controlledBy t (m .device))

@@ -21,7 +21,7 @@ use Rattle.machine.specs.declared.Machine.{Machine}
 use Rattle.machine.specs.Fields.{withBurst}
 use Rattle.machine.specs.State.{fresh, noConversion, runs, isForced, isThere, isUnread}
 use Rattle.machine.specs.Counts.{begunIf, deliveredIf, overwrittenIf}
-use Rattle.machine.specs.Control.{entered}
+use Rattle.machine.specs.Control.{phaseAfter}
 use Rattle.machine.specs.Events.{rested, showing, delivering, wholeClosing, awake, closed}
 use Rattle.machine.specs.Event.{Copied, Close, next, after}
 use Rattle.ledger.specs.Alive.{Turn, Fits, IsForced, codesOf, byWrite, byWake, measured, Delivers, forcedTurns, AllForced, wokenTurns, normalTurns, AllFit, allDelivered, ForcedTurnsAreTrue, NormalTurnsAreTrue}
@@ -133,7 +133,7 @@ rests-as : (d : Device) (b : Bool) → isForced (d .phase) ≡ b → rested d .p
 rests-as d true e = rw e
 rests-as d false e = rw e
 
-enters-as : (v : ℕ) (b : Bool) → (v % 4 ≡ 0 → ⊥) → eqb (v % 4) 3 ≡ b → entered Sleep v ≡ cond b Normal Forced
+enters-as : (v : ℕ) (b : Bool) → (v % 4 ≡ 0 → ⊥) → eqb (v % 4) 3 ≡ b → phaseAfter Sleep v ≡ cond b Normal Forced
 enters-as v b z e =
     ap (λ (c : Bool). cond c Sleep (cond (eqb (v % 4) 3) Normal Forced)) (ne-eqb (v % 4) 0 z) ∙ ap (λ (c : Bool). cond c Normal Forced) e
 

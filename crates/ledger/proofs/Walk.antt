@@ -25,7 +25,7 @@ use Rattle.machine.specs.declared.Closing.{Closing}
 use Rattle.machine.specs.Fields.{withCopying, withF2, withF5, withHeld, withDevice, withBurst, withLedger}
 use Rattle.machine.specs.State.{runs, isForced, sleeps, standsBy, isHeld, isOpen, isUnread}
 use Rattle.machine.specs.Counts.{isBarred, begunIf, overwrittenIf}
-use Rattle.machine.specs.Control.{inPhase, begins, controlled, effect, heldBegins, heldEffect}
+use Rattle.machine.specs.Control.{entered, begins, controlled, effect, heldBegins, heldEffect}
 use Rattle.machine.specs.Data.{inRange, stored, register}
 use Rattle.machine.specs.Events as ev
 use Rattle.machine.specs.Events.{reset, mayWrite, mayFinish, rested, finishedOne, showing, keeping, landed, isWhole, delivering, ended}
@@ -163,7 +163,7 @@ module _ (P : Machine → ℕ → Machine → List Happening → Type 0) (s : St
         pick Q (isBarred true (m .ledger)) (λ _. no allBegun refl) λ f.
         let i : busy m ≡ false = standing-by (m .device .phase) (not-false (standsBy (m .device .phase)) y) in
         subst (λ (ran : Bool). P m done (ev.awake m) (beginning ran (ev.awake m .device))) (sym i)
-        (s .begins m (inPhase Normal (m .device)) i refl (leb-false reg.mostBegun (m .ledger .begun) f))
+        (s .begins m (entered Normal (m .device)) i refl (leb-false reg.mostBegun (m .ledger .begun) f))
 
     by-byte : (b : Burst) → m .burst ≡ b
         → let g = ev.byteOf b m in P m (g .answer) (g .machine) (cond (eqb (g .answer) done) (gave (addressOf b) (g .value) ∷ []) [])

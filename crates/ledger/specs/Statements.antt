@@ -12,7 +12,6 @@ use Rattle.machine.specs.declared.Closing.{Closing}
 use Rattle.machine.specs.declared.Machine.{Machine}
 use Rattle.machine.specs.State.{noCodes}
 use Rattle.machine.specs.Counts.{tallied}
-use Rattle.machine.specs.Data.{isData}
 use Rattle.machine.specs.Event.{Event, answer}
 use Rattle.machine.specs.Refused.{Unchanged}
 use Rattle.ledger.specs.History.{Happening, Reading, begunIn, givenIn, wholeIn, shownBy, noReading, whereIs, isRunning, isWaiting, isShown}
@@ -79,7 +78,7 @@ pub record CloseIsTrue (c : Closing) (left lent : List ℕ) (h : List Happening)
 
 abbrev pub AreOf : Reading → List (ℕ × ℕ) → Type 0
 AreOf c [] = Unit {0}
-AreOf c (x ∷ l) = (isData (x .0) ≡ true → x .1 ≡ getD (c .bytes) (x .0 - reg.firstData) 0) × AreOf c l
+AreOf c (x ∷ l) = (reg.firstData ≤ x .0 → x .0 ≤ reg.lastData → x .1 ≡ getD (c .bytes) (x .0 - reg.firstData) 0) × AreOf c l
 
 pub record BytesAreOfOne (h : List Happening) : Type 0 where
   pub given-are : AreOf (shownBy h) (givenIn h)

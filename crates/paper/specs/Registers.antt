@@ -1,6 +1,6 @@
 -- Registers by their addresses, lengths and limits.
 use Prim.Native.Nat.{ℕ}
-use mathlib.Core.Bool.{Bool, _&&_, _||_}
+use mathlib.Core.Bool.{Bool, _||_}
 use mathlib.Core.List.{List, [], _∷_}
 use lib.Dec.{leb, eqb}
 
@@ -51,9 +51,9 @@ lastRegister = 0xFF
 abbrev pub isWritable : ℕ → Bool
 isWritable a = eqb a ctrlHum || (eqb a ctrlMeas || (eqb a config || eqb a reset))
 
--- reads take 0x80 to 0xFF
+-- reads take 0x80 to 0xFF, the last that a byte can name
 abbrev pub isReadable : ℕ → Bool
-isReadable a = leb firstRegister a && leb a lastRegister
+isReadable a = leb firstRegister a
 
 -- the status bits, 3 and 0
 abbrev pub statusRunning : ℕ

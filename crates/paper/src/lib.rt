@@ -1,6 +1,9 @@
 // The paper's numbers, registers and limits by name.
 // The definitions have the same names in specs/; a promise that cites one and code that uses another are not proved.
 
+ghost use mathlib.Core.Path.{_≡_};
+ghost use Rattle.paper.specs.Registers as reg;
+
 // Numbers handed back.
 pub const DONE: u8 = 0;
 
@@ -92,6 +95,24 @@ pub const SKIPPED_20: u32 = 0x80000;
 
 pub const SKIPPED_16: u32 = 0x8000;
 
+// The data bytes of the fresh state.
+pub const FRESH_BYTES: [u8; 8] = [0x80, 0x00, 0x00, 0x80, 0x00, 0x00, 0x80, 0x00];
+
 pub const MOST_PAIRS: usize = 16;
 
 pub const MOST_BEGUN: u32 = 4294967295;
+
+// Whether a register may be written.
+pub fn is_writable(register: u8) -> bool
+    ensures { λ r. ⌜ r ≡ reg.isWritable register ⌝ }
+{
+    (register == CTRL_HUM)
+        | ((register == CTRL_MEAS) | ((register == CONFIG) | (register == RESET)))
+}
+
+// Whether a read may begin at a register.
+pub fn is_readable(register: u8) -> bool
+    ensures { λ r. ⌜ r ≡ reg.isReadable register ⌝ }
+{
+    FIRST_REGISTER <= register
+}
