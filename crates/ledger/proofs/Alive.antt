@@ -2,10 +2,9 @@
 use Prim.Native.Nat.{ℕ, _+_, _%_, _≤_, _<_}
 use mathlib.Core.Path.{_≡_, refl, sym, ap, _∙_, subst}
 use mathlib.Core.Bool.{Bool, true, false}
-use mathlib.Core.List.{List}
+use mathlib.Core.List.{List, [], _∷_, _++_}
 use native.Mathlib.Omega.{arith}
 use Rattle.paper.specs.Registers as reg
-use Rattle.machine.specs.declared.Phase.the-variants.{Sleep, Standby}
 use Rattle.machine.specs.declared.Held.the-variants.{Nothing}
 use Rattle.machine.specs.declared.Burst.the-variants.{Closed}
 use Rattle.machine.specs.declared.Codes.{Codes}
@@ -17,9 +16,9 @@ use Rattle.machine.specs.State.{fresh, noConversion, runs, isOpen, isThere, isU
 use Rattle.machine.specs.Counts.{begunIf, deliveredIf, overwrittenIf}
 use Rattle.machine.specs.Data.{stored}
 use Rattle.machine.specs.Events.{showing, delivering, waitingShown, ended, wholeClosing, awake, closed}
-use Rattle.machine.specs.Event.{Event, after}
+use Rattle.machine.specs.Event.{Event, Power, Copied, next, after}
 use Rattle.ledger.specs.Told.{history}
-use Rattle.ledger.specs.Alive.{Turn, Fits, codesOf, byWrite, byWake, measured, Begins, Delivers, WriteIsTrue, WakeIsTrue}
+use Rattle.ledger.specs.Alive.{Turn, Fits, codesOf, byWrite, byWake, measured, Begins, Delivers, MayBeginByWrite, WriteRunsTruly, MayBeginByWake, WakeRunsTruly}
 use Rattle.ledger.proofs.Book.{nonzero-pos}
 use Rattle.ledger.proofs.Right.{none-waits}
 use Rattle.ledger.proofs.Kept.{kept}
@@ -94,25 +93,37 @@ module _ (es : List Event) where
       rw (← begun-is, ← delivered-is, ← q) (delivers r t f u n b w (omega arith) (omega arith))
 
   -- forced or normal, by a write
-  pub write-is-true : (t : Turn) → Fits t → now .device .phase ≡ Sleep → now .device .copying ≡ false → now .burst ≡ Closed → now .ledger .begun < reg.mostBegun
-      → (t .f4 % 4 ≡ 0 → ⊥) → WriteIsTrue now t
-  write-is-true t f p c b l z =
+  pub write-runs-truly : (t : Turn) → Fits t → MayBeginByWrite now t → WriteRunsTruly now t
+  write-runs-truly t f a =
+      let l = a .has-room in
       let r : Machine = begun now (controlledBy t (now .device)) in
-      let e : after now (byWrite t) ≡ r = write-begins now t l z p c b in
-      let u : runs (r .device .phase) ≡ true = rw p (mode-runs (t .f4) z) in
+      let e : after now (byWrite t) ≡ r = write-begins now t l (a .asks) (a .sleeps) (a .not-copying) (a .none-open) in
+      let u : runs (r .device .phase) ≡ true = rw (a .sleeps) (mode-runs (t .f4) (a .asks)) in
       record {
         begins = subst (λ (k : Machine). Begins now k (codesOf t)) (sym e) (record { begun-is = begun-more l; runs-now = u; codes-are = refl });
         delivers = subst (λ (k : Machine). let x = closed (after k (measured t)) (t .lent) in Delivers (now .ledger .begun + 1) (now .ledger .delivered + 1) (codesOf t) t (x .0) (x .1))
-            (sym e) (turns t r (codesOf t) f u refl b (none-waiting b) refl refl l);
+            (sym e) (turns t r (codesOf t) f u refl (a .none-open) (none-waiting (a .none-open)) refl refl l);
       }
 
   -- normal, by a wake
-  pub wake-is-true : (t : Turn) → Fits t → now .device .phase ≡ Standby → now .device .held ≡ Nothing → now .burst ≡ Closed → now .ledger .begun < reg.mostBegun
-      → WakeIsTrue now t
-  wake-is-true t f p n b l =
-      let e : after now byWake ≡ awake now = wake-begins now p l in
+  pub wake-runs-truly : (t : Turn) → Fits t → MayBeginByWake now → WakeRunsTruly now t
+  wake-runs-truly t f a =
+      let l = a .has-room in
+      let e : after now byWake ≡ awake now = wake-begins now (a .stands-by) l in
       record {
         begins = subst (λ (k : Machine). Begins now k (now .device .codes)) (sym e) (record { begun-is = begun-more l; runs-now = refl; codes-are = refl });
         delivers = subst (λ (k : Machine). let x = closed (after k (measured t)) (t .lent) in Delivers (now .ledger .begun + 1) (now .ledger .delivered + 1) (now .device .codes) t (x .0) (x .1))
-            (sym e) (turns t (awake now) (now .device .codes) f refl n b (none-waiting b) refl refl l);
+            (sym e) (turns t (awake now) (now .device .codes) f refl (a .none-held) (a .none-open) (none-waiting (a .none-open)) refl refl l);
       }
+
+-- and no state is without a way on: after power and the end of copying a write begins the next
+after-append : (m : Machine) (es fs : List Event) → after m (es ++ fs) ≡ after (after m es) fs
+after-append m [] fs = refl
+after-append m (e ∷ es) fs = after-append (next m e) es fs
+
+pub power-leads-on : (es : List Event) (t : Turn) → Fits t → (t .f4 % 4 ≡ 0 → ⊥) → after fresh es .ledger .begun < reg.mostBegun
+    → WriteRunsTruly (after fresh (es ++ Power ∷ Copied ∷ [])) t
+power-leads-on es t f z l =
+    write-runs-truly (es ++ Power ∷ Copied ∷ []) t f
+    (subst (λ (m : Machine). MayBeginByWrite m t) (sym (after-append fresh es (Power ∷ Copied ∷ [])))
+    (record { sleeps = refl; not-copying = refl; none-open = refl; has-room = l; asks = z }))

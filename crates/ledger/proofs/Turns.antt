@@ -24,7 +24,7 @@ use Rattle.machine.specs.Counts.{begunIf, deliveredIf, overwrittenIf}
 use Rattle.machine.specs.Control.{phaseAfter}
 use Rattle.machine.specs.Events.{rested, showing, delivering, wholeClosing, awake, closed}
 use Rattle.machine.specs.Event.{Copied, Close, next, after}
-use Rattle.ledger.specs.Alive.{Turn, Fits, IsForced, codesOf, byWrite, byWake, measured, Delivers, forcedTurns, AllForced, wokenTurns, normalTurns, AllFit, allDelivered, ForcedTurnsAreTrue, NormalTurnsAreTrue}
+use Rattle.ledger.specs.Alive.{Turn, Fits, IsForced, codesOf, byWrite, byWake, measured, Delivers, forcedTurns, AllForced, wokenTurns, normalTurns, AllFit, allDelivered, ForcedTurnsRunTruly, NormalTurnsRunTruly}
 use Rattle.ledger.proofs.Book.{same-ledger}
 use Rattle.ledger.proofs.Turn.{begun, controlledBy, mode-runs, write-begins, wake-begins, read-from, closes}
 use Rattle.ledger.proofs.Alive.{closed-after, ledger-after, delivers}
@@ -212,17 +212,17 @@ copied-rests : Rests Sleep 0 copied
 unfolding copied
 copied-rests = record { phase-is = refl; copying-is = refl; held-is = refl; none-open = refl; none-waits = refl; none-unread = refl; ledger-is = refl }
 
-pub forced-turns-are-true : (ts : List Turn) → AllForced ts → length ts ≤ reg.mostBegun → ForcedTurnsAreTrue (after fresh (Copied ∷ forcedTurns ts)) (length ts)
+pub forced-turns-run-truly : (ts : List Turn) → AllForced ts → length ts ≤ reg.mostBegun → ForcedTurnsRunTruly (after fresh (Copied ∷ forcedTurns ts)) (length ts)
 unfolding copied
-forced-turns-are-true ts a l =
+forced-turns-run-truly ts a l =
     let r : Rests Sleep (length ts) (after copied (forcedTurns ts)) =
     subst (λ (k : ℕ). Rests Sleep k (after copied (forcedTurns ts))) (omega arith) (after-forced ts 0 copied a (omega arith) copied-rests) in
     record { tally-is = r .ledger-is; next-is = λ t f m n. write-shows (length ts) n (after copied (forcedTurns ts)) t f (m .not-sleep) r }
 
-pub normal-turns-are-true : (t : Turn) (ts : List Turn) → Fits t → t .f4 % 4 ≡ 3 → AllFit ts → 1 + length ts ≤ reg.mostBegun
-    → NormalTurnsAreTrue (after fresh (Copied ∷ normalTurns t ts)) (1 + length ts) (codesOf t)
+pub normal-turns-run-truly : (t : Turn) (ts : List Turn) → Fits t → t .f4 % 4 ≡ 3 → AllFit ts → 1 + length ts ≤ reg.mostBegun
+    → NormalTurnsRunTruly (after fresh (Copied ∷ normalTurns t ts)) (1 + length ts) (codesOf t)
 unfolding copied
-normal-turns-are-true t ts f e a l =
+normal-turns-run-truly t ts f e a l =
     let z : t .f4 % 4 ≡ 0 → ⊥ = λ q. omega arith in
     let k : Machine = next (after copied (byWrite t ++ measured t)) (Close (t .lent)) in
     let first : Woken (codesOf t) 1 k = record {

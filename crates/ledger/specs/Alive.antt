@@ -1,5 +1,5 @@
 -- A dead machine does not pass, though the sum alone would let it: whatever came before, the next conversion begins, finishes with its own bytes, is shown
--- under its own number, and is counted, in forced mode and in normal mode, for any codes and counts (proofs/Alive.antt).
+-- under its own number, and is counted, in forced mode and in normal mode, for any codes and counts (proofs/Alive.antt, proofs/Turns.antt).
 use Prim.Native.Nat.{ℕ, _+_, _/_, _%_, _<_}
 use mathlib.Core.Path.{_≡_}
 use mathlib.Core.Bool.{true, false}
@@ -7,6 +7,9 @@ use mathlib.Core.List.{List, [], _∷_, _++_}
 use lib.ListN.{length}
 use Rattle.paper.specs.Numbers.{done}
 use Rattle.paper.specs.Registers as reg
+use Rattle.machine.specs.declared.Phase.the-variants.{Sleep, Standby}
+use Rattle.machine.specs.declared.Held.the-variants.{Nothing}
+use Rattle.machine.specs.declared.Burst.the-variants.{Closed}
 use Rattle.machine.specs.declared.Codes.{Codes}
 use Rattle.machine.specs.declared.Closing.{Closing}
 use Rattle.machine.specs.declared.Ledger.{Ledger}
@@ -71,14 +74,29 @@ pub record Delivers (n d : ℕ) (c : Codes) (t : Turn) (x : Closing) (left : Lis
   pub begun-is : x .machine .ledger .begun ≡ n
   pub delivered-is : x .machine .ledger .delivered ≡ d
 
--- in sleep, with nothing being copied, a write of F4 in any mode but sleep
-pub record WriteIsTrue (m : Machine) (t : Turn) : Type 0 where
+-- ---- one turn, after whatever history
+
+-- in sleep, with nothing being copied, no burst open and room for one more; F4 asks for any mode but sleep
+pub record MayBeginByWrite (m : Machine) (t : Turn) : Type 0 where
+  pub sleeps : m .device .phase ≡ Sleep
+  pub not-copying : m .device .copying ≡ false
+  pub none-open : m .burst ≡ Closed
+  pub has-room : m .ledger .begun < reg.mostBegun
+  pub asks : t .f4 % 4 ≡ 0 → ⊥
+
+pub record WriteRunsTruly (m : Machine) (t : Turn) : Type 0 where
   pub begins : Begins m (after m (byWrite t)) (codesOf t)
   pub delivers : let x = closed (after m (byWrite t ++ measured t)) (t .lent) in
       Delivers (m .ledger .begun + 1) (m .ledger .delivered + 1) (codesOf t) t (x .0) (x .1)
 
--- in standby, with nothing held
-pub record WakeIsTrue (m : Machine) (t : Turn) : Type 0 where
+-- in standby, with nothing held, no burst open and room for one more
+pub record MayBeginByWake (m : Machine) : Type 0 where
+  pub stands-by : m .device .phase ≡ Standby
+  pub none-held : m .device .held ≡ Nothing
+  pub none-open : m .burst ≡ Closed
+  pub has-room : m .ledger .begun < reg.mostBegun
+
+pub record WakeRunsTruly (m : Machine) (t : Turn) : Type 0 where
   pub begins : Begins m (after m byWake) (m .device .codes)
   pub delivers : let x = closed (after m (byWake ++ measured t)) (t .lent) in
       Delivers (m .ledger .begun + 1) (m .ledger .delivered + 1) (m .device .codes) t (x .0) (x .1)
@@ -116,13 +134,13 @@ abbrev pub allDelivered : ℕ → Ledger
 allDelivered n = record { begun = n; delivered = n; overwritten = 0; abandoned = 0; standing = 0 }
 
 -- After n turns the tally is theirs; and the next turn's close shows its own conversion, as number n + 1.
-pub record ForcedTurnsAreTrue (m : Machine) (n : ℕ) : Type 0 where
+pub record ForcedTurnsRunTruly (m : Machine) (n : ℕ) : Type 0 where
   pub tally-is : m .ledger ≡ allDelivered n
   pub next-is : (t : Turn) → Fits t → IsForced t → n < reg.mostBegun → let x = closed (after m (byWrite t ++ measured t)) (t .lent) in
       Delivers (n + 1) (n + 1) (codesOf t) t (x .0) (x .1)
 
 -- in normal mode with the codes that the first turn set
-pub record NormalTurnsAreTrue (m : Machine) (n : ℕ) (c : Codes) : Type 0 where
+pub record NormalTurnsRunTruly (m : Machine) (n : ℕ) (c : Codes) : Type 0 where
   pub tally-is : m .ledger ≡ allDelivered n
   pub next-is : (t : Turn) → Fits t → n < reg.mostBegun → let x = closed (after m (byWake ++ measured t)) (t .lent) in
       Delivers (n + 1) (n + 1) c t (x .0) (x .1)
