@@ -79,6 +79,9 @@ module _ (es : List Event) where
   none-waiting : now .burst ≡ Closed → now .waiting ≡ noConversion
   none-waiting b = let k = kept es in k .tidy .none-waits (k .right .waits-is ∙ none-waits (history es) (sym (k .right .open-is) ∙ ap isOpen b))
 
+  none-held : runs (now .device .phase) ≡ false → now .device .held ≡ Nothing
+  none-held = kept es .tidy .none-held
+
   begun-more : now .ledger .begun < reg.mostBegun → begunIf true (now .ledger) .begun ≡ now .ledger .begun + 1
   begun-more l = omega arith
 
@@ -113,7 +116,7 @@ module _ (es : List Event) where
       record {
         begins = subst (λ (k : Machine). Begins now k (now .device .codes)) (sym e) (record { begun-is = begun-more l; runs-now = refl; codes-are = refl });
         delivers = subst (λ (k : Machine). let x = closed (after k (measured t)) (t .lent) in Delivers (now .ledger .begun + 1) (now .ledger .delivered + 1) (now .device .codes) t (x .0) (x .1))
-            (sym e) (turns t (awake now) (now .device .codes) f refl (a .none-held) (a .none-open) (none-waiting (a .none-open)) refl refl l);
+            (sym e) (turns t (awake now) (now .device .codes) f refl (none-held (ap runs (a .stands-by))) (a .none-open) (none-waiting (a .none-open)) refl refl l);
       }
 
 -- and no state is without a way on: after power and the end of copying a write begins the next

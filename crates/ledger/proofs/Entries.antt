@@ -5,6 +5,7 @@ use mathlib.Core.Bool.{Bool, true, false, and-true, and-not-self}
 use mathlib.Core.List.{List}
 use native.Mathlib.Omega.{arith}
 use Rattle.paper.specs.Registers.{mostBegun}
+use Rattle.machine.specs.declared.Held.the-variants.{Nothing}
 use Rattle.machine.specs.declared.Burst.the-variants.{Closed}
 use Rattle.machine.specs.declared.Conversion.{Conversion}
 use Rattle.machine.specs.declared.Device.{Device}
@@ -34,6 +35,7 @@ pub record Tidy (m : Machine) : Type 0 where
   pub none-shown : isThere (m .shown) ≡ false → m .shown ≡ noConversion
   pub none-waits : isThere (m .waiting) ≡ false → m .waiting ≡ noConversion
   pub unread-waits : m .waiting .delivered ≡ false
+  pub none-held : busy m ≡ false → m .device .held ≡ Nothing
 
 -- ---- with room no count is cut
 

@@ -42,7 +42,10 @@ Spanned Closed l = Unit {0}
 Spanned (Open i j) l = Spans i j l
 
 pub spans-opened : (a : ℕ) → Spans a a []
-spans-opened i = record { ordered = omega arith; given-is = λ a. same-test false (within i i a) (λ e. absurd (false≢true e)) (λ e. absurd (omega (arith, within-low i i a e, within-high i i a e))) }
+spans-opened i = record { ordered = omega arith; given-is = none }
+  where
+    none : (a : ℕ) → false ≡ within i i a
+    none a = same-test false (within i i a) (λ e. absurd (false≢true e)) (λ e. absurd (omega (arith, within-low i i a e, within-high i i a e)))
 
 pub spans-gave : (i j v : ℕ) (l : List (ℕ × ℕ)) → Spans i j l → Spans i (j + 1) ((j, v) ∷ l)
 spans-gave i j v l s = record { ordered = omega (arith, s .ordered); given-is = λ a. rw (s .given-is a) (at a (eqb a j) refl) }

@@ -7,6 +7,8 @@ use native.Mathlib.Omega.{arith}
 use lib.ListN.{getD}
 use Rattle.laws.specs.Choices.{pick}
 use Rattle.paper.specs.Registers as reg
+use Rattle.machine.specs.declared.Held.the-variants.{Nothing}
+use Rattle.machine.specs.declared.Burst.{Burst}
 use Rattle.machine.specs.declared.Burst.the-variants.{Closed, Open}
 use Rattle.machine.specs.declared.Conversion.{Conversion}
 use Rattle.machine.specs.declared.Device.{Device}
@@ -42,7 +44,7 @@ kept-fresh : Kept state.fresh []
 kept-fresh = record {
   right = right-fresh;
   names = names-fresh;
-  tidy = record { small = omega arith; none-shown = λ e. refl; none-waits = λ e. refl; unread-waits = refl };
+  tidy = record { small = omega arith; none-shown = λ e. refl; none-waits = λ e. refl; unread-waits = refl; none-held = λ e. refl };
   spanned = tt;
   given = tt;
 }
@@ -62,9 +64,9 @@ enters x m n h a e b t s g k = record {
 }
 
 -- nothing happened: only the device's fields changed
-still : (m : Machine) (d : Device) (h : List Happening) → runs (d .phase) ≡ busy m → (busy m ≡ true → d .codes ≡ m .device .codes) → Kept m h
-    → Kept (withDevice d m) h
-still m d h e c k = let r = k .right in let p = k .names in let t = k .tidy in record {
+still : (m : Machine) (d : Device) (h : List Happening) → runs (d .phase) ≡ busy m → (busy m ≡ true → d .codes ≡ m .device .codes)
+    → (busy m ≡ false → m .device .held ≡ Nothing → d .held ≡ Nothing) → Kept m h → Kept (withDevice d m) h
+still m d h e c n k = let r = k .right in let p = k .names in let t = k .tidy in record {
   right = subst (λ (u : Bool). Right u (book (withDevice d m)) h) (sym e) (record {
     begun-is = r .begun-is;
     begun-some = r .begun-some;
@@ -85,7 +87,13 @@ still m d h e c k = let r = k .right in let p = k .names in let t = k .tidy in r
     shown-le = p .shown-le;
     none-read = p .none-read;
   });
-  tidy = record { small = t .small; none-shown = t .none-shown; none-waits = t .none-waits; unread-waits = t .unread-waits };
+  tidy = record {
+    small = t .small;
+    none-shown = t .none-shown;
+    none-waits = t .none-waits;
+    unread-waits = t .unread-waits;
+    none-held = λ i. n (sym e ∙ i) (t .none-held (sym e ∙ i));
+  };
   spanned = k .spanned;
   given = k .given;
 }
@@ -94,57 +102,60 @@ still m d h e c k = let r = k .right in let p = k .names in let t = k .tidy in r
 
 kept-lost : (m : Machine) (h : List Happening) → Kept m h → Kept (reset m) (lost ∷ h)
 kept-lost m h k = enters lost m (reset m) h tt refl (enters-lost m h (k .tidy) (k .right) (wholeIn h))
-    (record { small = k .tidy .small; none-shown = λ e. refl; none-waits = λ e. refl; unread-waits = refl }) tt tt k
+    (record { small = k .tidy .small; none-shown = λ e. refl; none-waits = λ e. refl; unread-waits = refl; none-held = λ e. refl }) tt tt k
 
 kept-began : (m : Machine) (d : Device) (h : List Happening) → busy m ≡ false → runs (d .phase) ≡ true → m .ledger .begun < reg.mostBegun → Kept m h
     → Kept (withDevice d (withLedger (begunIf true (m .ledger)) m)) (began (d .codes) ∷ h)
 kept-began m d h i e l k = let t = k .tidy in
     enters (began (d .codes)) m (withDevice d (withLedger (begunIf true (m .ledger)) m)) h i e (enters-began m h t (k .right) (wholeIn h) d l)
-    (record { small = omega arith; none-shown = t .none-shown; none-waits = t .none-waits; unread-waits = t .unread-waits }) (k .spanned) (k .given) k
+    (record { small = omega arith; none-shown = t .none-shown; none-waits = t .none-waits; unread-waits = t .unread-waits; none-held = λ q. absurd (true≢false (sym e ∙ q)) })
+    (k .spanned) (k .given) k
 
-tidy-lands : (m : Machine) (d : Device) (bs : List ℕ) → nonzero (m .ledger .begun) ≡ true → Tidy m → Tidy (lands m d bs)
+tidy-lands : (m : Machine) (d : Device) (bs : List ℕ) → nonzero (m .ledger .begun) ≡ true → d .held ≡ Nothing → Tidy m → Tidy (lands m d bs)
 unfolding keeping showing
-tidy-lands m d bs one t =
+tidy-lands m d bs one n t =
     pick (λ (n : Machine). Tidy (withDevice d n)) (isOpen (m .burst))
     (λ _. record {
       small = rw (overwritten-begun (isUnread (m .waiting)) (m .ledger)) (t .small);
       none-shown = t .none-shown;
       none-waits = λ z. absurd (true≢false (sym one ∙ z));
       unread-waits = refl;
+      none-held = λ _. n;
     })
     (λ _. record {
       small = rw (overwritten-begun (isUnread (m .shown)) (m .ledger)) (t .small);
       none-shown = λ z. absurd (true≢false (sym one ∙ z));
       none-waits = t .none-waits;
       unread-waits = t .unread-waits;
+      none-held = λ _. n;
     })
 
 lands-burst : (m : Machine) (d : Device) (bs : List ℕ) → lands m d bs .burst ≡ m .burst
 unfolding keeping showing
 lands-burst m d bs = pick (λ (n : Machine). n .burst ≡ m .burst) (isOpen (m .burst)) (λ _. refl) (λ _. refl)
 
-kept-finished : (m : Machine) (d : Device) (bs : List ℕ) (h : List Happening) → busy m ≡ true → runs (d .phase) ≡ false → d .codes ≡ m .device .codes → Kept m h
-    → Kept (lands m d bs) (finished bs ∷ h)
-kept-finished m d bs h u i q k =
+kept-finished : (m : Machine) (d : Device) (bs : List ℕ) (h : List Happening) → busy m ≡ true → runs (d .phase) ≡ false → d .codes ≡ m .device .codes
+    → d .held ≡ Nothing → Kept m h → Kept (lands m d bs) (finished bs ∷ h)
+kept-finished m d bs h u i q n k =
     let r = k .right in
     let one : nonzero (m .ledger .begun) ≡ true = nonzero-pos (m .ledger .begun) (omega (arith, r .begun-is, r .begun-some, ap bit u)) in
     enters (finished bs) m (lands m d bs) h u i
     (enters-finished m h (k .tidy) r (wholeIn h) d bs q (λ o. r .waits-is ∙ none-waits h (sym (r .open-is) ∙ o)))
-    (tidy-lands m d bs one (k .tidy)) (rw (lands-burst m d bs) (k .spanned)) (k .given) k
+    (tidy-lands m d bs one n (k .tidy)) (rw (lands-burst m d bs) (k .spanned)) (k .given) k
+
+tidy-burst : (m : Machine) (b : Burst) → Tidy m → Tidy (withBurst b m)
+tidy-burst m b t = record { small = t .small; none-shown = t .none-shown; none-waits = t .none-waits; unread-waits = t .unread-waits; none-held = t .none-held }
 
 kept-opened : (m : Machine) (a : ℕ) (h : List Happening) → isOpen (m .burst) ≡ false → Kept m h → Kept (withBurst (Open a a) m) (opened ∷ h)
-kept-opened m a h o k = let t = k .tidy in
-    enters opened m (withBurst (Open a a) m) h o refl refl
-    (record { small = t .small; none-shown = t .none-shown; none-waits = t .none-waits; unread-waits = t .unread-waits }) (spans-opened a) tt k
+kept-opened m a h o k = enters opened m (withBurst (Open a a) m) h o refl refl (tidy-burst m (Open a a) (k .tidy)) (spans-opened a) tt k
 
 kept-gave : (m : Machine) (i j : ℕ) (h : List Happening) → m .burst ≡ Open i j → Kept m h
     → Kept (withBurst (Open i (j + 1)) m) (gave j (register j m) ∷ h)
 kept-gave m i j h e k =
-    let t = k .tidy in
     let open-is : isOpen (m .burst) ≡ true = ap isOpen e in
     let shown-is : book m .shown ≡ shownBy h = k .right .shown-is ∙ rw (← k .right .open-is, open-is) in
     enters (gave j (register j m)) m (withBurst (Open i (j + 1)) m) h open-is refl (rw open-is)
-    (record { small = t .small; none-shown = t .none-shown; none-waits = t .none-waits; unread-waits = t .unread-waits })
+    (tidy-burst m (Open i (j + 1)) (k .tidy))
     (spans-gave i j (register j m) (givenIn h) (rw e at (k .spanned)))
     (λ q w. register-data j m q w ∙ ap (λ (c : Reading). getD (c .bytes) (j - reg.firstData) 0) shown-is, k .given) k
 
@@ -161,8 +172,9 @@ tidy-ended m t =
       none-shown = t .none-waits;
       none-waits = λ z. refl;
       unread-waits = refl;
+      none-held = t .none-held;
     })
-    (λ _. record { small = t .small; none-shown = t .none-shown; none-waits = t .none-waits; unread-waits = t .unread-waits })
+    (λ _. tidy-burst m Closed t)
 
 delivered-begun : (t : Bool) (l : Ledger) → deliveredIf t l .begun ≡ l .begun
 delivered-begun true l = refl
@@ -175,6 +187,7 @@ tidy-delivering m t = record {
   none-shown = λ z. ap (λ (c : Conversion). record { number = c .number; codes = c .codes; bytes = c .bytes; delivered = isThere c }) (t .none-shown z);
   none-waits = t .none-waits;
   unread-waits = t .unread-waits;
+  none-held = t .none-held;
 }
 
 -- by the machine's test of the burst, which is the history's
@@ -199,10 +212,10 @@ Keeps m n k l = (h : List Happening) → Kept m h → Kept k (l ++ h)
 keeps : Steps Keeps
 keeps = record {
   refuses = λ m n z h k. k;
-  stays = λ m d e c h k. still m d h e c k;
+  stays = λ m d e c n h k. still m d h e c n k;
   loses = kept-lost;
   begins = λ m d i e l h k. kept-began m d h i e l k;
-  finishes = λ m d bs n l u i q c h k. rw append-assoc (c (finished bs ∷ h) (kept-finished m d bs h u i q k));
+  finishes = λ m d bs n l u i q z c h k. rw append-assoc (c (finished bs ∷ h) (kept-finished m d bs h u i q z k));
   opens = λ m a o h k. kept-opened m a h o k;
   gives = λ m i j e h k. kept-gave m i j h e k;
   ends-whole = λ m o w h k. kept-whole m h o w k;

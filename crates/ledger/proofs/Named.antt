@@ -144,8 +144,24 @@ names-enter lost u b h a r p = record {
   shown-le = omega arith;
   none-read = λ e. refl;
 }
-names-enter opened u b h a r p = record { named = p .named; run-at = p .run-at; wait-at = p .wait-at; shown-at = p .shown-at; wait-le = p .wait-le; shown-le = p .shown-le; none-read = p .none-read }
-names-enter (gave i v) u b h a r p = record { named = p .named; run-at = p .run-at; wait-at = p .wait-at; shown-at = p .shown-at; wait-le = p .wait-le; shown-le = p .shown-le; none-read = p .none-read }
+names-enter opened u b h a r p = record {
+  named = p .named;
+  run-at = p .run-at;
+  wait-at = p .wait-at;
+  shown-at = p .shown-at;
+  wait-le = p .wait-le;
+  shown-le = p .shown-le;
+  none-read = p .none-read;
+}
+names-enter (gave i v) u b h a r p = record {
+  named = p .named;
+  run-at = p .run-at;
+  wait-at = p .wait-at;
+  shown-at = p .shown-at;
+  wait-le = p .wait-le;
+  shown-le = p .shown-le;
+  none-read = p .none-read;
+}
 names-enter closed u b h a r p = at (wholeIn h) refl
   where
     moves : (g : Bool) → wholeIn h ≡ g → (k : ℕ) → Named u (begunIn h) noReading (latest b) k (fate (closed ∷ h) k)

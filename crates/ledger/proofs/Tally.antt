@@ -34,7 +34,9 @@ abbrev pub oneRuns : Counts
 oneRuns = counts 0 0 0 1 0 0
 
 abbrev pub add : Counts → Counts → Counts
-add x y = counts (x .delivered + y .delivered) (x .overwritten + y .overwritten) (x .abandoned + y .abandoned) (x .running + y .running) (x .waiting + y .waiting) (x .unread + y .unread)
+add x y =
+    counts (x .delivered + y .delivered) (x .overwritten + y .overwritten) (x .abandoned + y .abandoned)
+    (x .running + y .running) (x .waiting + y .waiting) (x .unread + y .unread)
 
 abbrev one : Fate → Counts
 one Unbegun = nought

@@ -40,14 +40,17 @@ lands m d bs = withDevice d (landed (finishedOne m bs) m)
 
 -- of the machine before, the number handed back, the machine after, and what happened
 pub record Steps (P : Machine → ℕ → Machine → List Happening → Type 0) : Type 0 where
+  -- a number other than done; or only the device's fields change
   pub refuses : (m : Machine) (n : ℕ) → (n ≡ done → ⊥) → P m n m []
-  pub stays : (m : Machine) (d : Device) → runs (d .phase) ≡ busy m → (busy m ≡ true → d .codes ≡ m .device .codes) → P m done (withDevice d m) []
+  pub stays : (m : Machine) (d : Device) → runs (d .phase) ≡ busy m → (busy m ≡ true → d .codes ≡ m .device .codes)
+      → (busy m ≡ false → m .device .held ≡ held.Nothing → d .held ≡ held.Nothing) → P m done (withDevice d m) []
+  -- a reset or power event; a beginning, with the device as d; the running one lands, and the machine goes on from there
   pub loses : (m : Machine) → P m done (reset m) (lost ∷ [])
   pub begins : (m : Machine) (d : Device) → busy m ≡ false → runs (d .phase) ≡ true → m .ledger .begun < reg.mostBegun
       → P m done (withDevice d (withLedger (begunIf true (m .ledger)) m)) (began (d .codes) ∷ [])
-  -- and then goes on
   pub finishes : (m : Machine) (d : Device) (bs : List ℕ) (n : Machine) (l : List Happening) → busy m ≡ true → runs (d .phase) ≡ false
-      → d .codes ≡ m .device .codes → P (lands m d bs) done n l → P m done n (l ++ finished bs ∷ [])
+      → d .codes ≡ m .device .codes → d .held ≡ held.Nothing → P (lands m d bs) done n l → P m done n (l ++ finished bs ∷ [])
+  -- a burst is opened, gives a register, and is closed
   pub opens : (m : Machine) (a : ℕ) → isOpen (m .burst) ≡ false → P m done (withBurst (burst.Open a a) m) (opened ∷ [])
   pub gives : (m : Machine) (first at : ℕ) → m .burst ≡ burst.Open first at
       → P m done (withBurst (burst.Open first (at + 1)) m) (gave at (register at m) ∷ [])
@@ -64,6 +67,9 @@ standing-by Standby e = refl
 
 rests : (d : Device) → runs (rested d .phase) ≡ false
 rests d = pick (λ (k : Device). runs (k .phase) ≡ false) (isForced (d .phase)) (λ _. refl) (λ _. refl)
+
+rests-held : (d : Device) → rested d .held ≡ d .held
+rests-held d = pick (λ (k : Device). k .held ≡ d .held) (isForced (d .phase)) (λ _. refl) (λ _. refl)
 
 rests-codes : (d : Device) → rested d .codes ≡ d .codes
 rests-codes d = pick (λ (k : Device). k .codes ≡ d .codes) (isForced (d .phase)) (λ _. refl) (λ _. refl)
@@ -94,7 +100,7 @@ module _ (P : Machine → ℕ → Machine → List Happening → Type 0) (s : St
 
       at : (b : Bool) → begins (m .device .phase) v ≡ b → P m done (withDevice d (withLedger (begunIf b (m .ledger)) m)) (cond b (began (d .codes) ∷ []) [])
       at true e = s .begins m d i e (leb-false reg.mostBegun (m .ledger .begun) (rw e at f))
-      at false e = s .stays m d (e ∙ sym i) (λ z. absurd (false≢true (sym i ∙ z)))
+      at false e = s .stays m d (e ∙ sym i) (λ z. absurd (false≢true (sym i ∙ z))) (λ _ _. refl)
 
   module _ (m : Machine) where
     -- of an outcome, where a done event tells l of the device afterwards
@@ -105,23 +111,24 @@ module _ (P : Machine → ℕ → Machine → List Happening → Type 0) (s : St
     no n z = s .refuses m n (eqb-false n done z)
 
     -- only the device's fields change, and neither its phase nor its codes
-    only : (d : Device) → d .phase ≡ m .device .phase → d .codes ≡ m .device .codes → P m done (withDevice d m) (beginning (busy m) d)
-    only d e c = rw (none-begins (busy m) d (rw e)) (s .stays m d (rw e) (λ _. c))
+    only : (d : Device) → d .phase ≡ m .device .phase → d .codes ≡ m .device .codes → (busy m ≡ false → d .held ≡ m .device .held)
+        → P m done (withDevice d m) (beginning (busy m) d)
+    only d e c q = rw (none-begins (busy m) d (rw e)) (s .stays m d (rw e) (λ _. c) (λ i z. q i ∙ z))
 
     by-f4 : (v : ℕ) → Of (beginning (busy m)) (ev.writtenF4 m v)
     by-f4 v =
         let Q = Of (beginning (busy m)) in
         pick Q (busy m)
-        (λ _. pick Q (isHeld (m .device .held)) (λ _. no ignored refl) (λ _. only (withHeld (held.Byte v) (m .device)) refl refl))
+        (λ u. pick Q (isHeld (m .device .held)) (λ _. no ignored refl) (λ _. only (withHeld (held.Byte v) (m .device)) refl refl (λ i. absurd (false≢true (sym i ∙ u)))))
         (λ i. pick Q (isBarred (begins (m .device .phase) v) (m .ledger)) (λ _. no allBegun refl) (λ f. rw i (by-effect m v i f)))
 
     by-control : (a v : ℕ) → Of (beginning (busy m)) (ev.writtenControl m a v)
     by-control a v =
         let Q = Of (beginning (busy m)) in
         pick Q (not (mayWrite (m .device))) (λ _. no stillCopying refl) λ _.
-        pick Q (eqb a reg.ctrlHum) (λ _. only (withF2 (v % 8) (m .device)) refl refl) λ _.
+        pick Q (eqb a reg.ctrlHum) (λ _. only (withF2 (v % 8) (m .device)) refl refl (λ _. refl)) λ _.
         pick Q (eqb a reg.config)
-        (λ _. pick Q (not (sleeps (m .device .phase))) (λ _. no ignored refl) (λ _. only (withF5 (v / 4 * 4 + v % 2) (m .device)) refl refl))
+        (λ _. pick Q (not (sleeps (m .device .phase))) (λ _. no ignored refl) (λ _. only (withF5 (v / 4 * 4 + v % 2) (m .device)) refl refl (λ _. refl)))
         (λ _. by-f4 v)
 
     by-write : (a v : ℕ) → Of (tells m (Write a v)) (ev.written m a v)
@@ -133,20 +140,24 @@ module _ (P : Machine → ℕ → Machine → List Happening → Type 0) (s : St
         (λ e. rw e (pick (Of (λ d. lost ∷ [])) (eqb v reg.resetWord) (λ _. s .loses m) (λ _. no ignored refl)))
         (λ e. rw e (by-control a v))
 
-    by-held : (q : Held) (bs : List ℕ) → busy m ≡ true → isBarred (heldBegins q (rested (m .device) .phase)) (m .ledger) ≡ false
+    by-held : (q : Held) (bs : List ℕ) → m .device .held ≡ q → busy m ≡ true → isBarred (heldBegins q (rested (m .device) .phase)) (m .ledger) ≡ false
         → let n = heldEffect q (lands m (rested (m .device)) bs) in P m done n (beginning false (n .device) ++ finished bs ∷ [])
-    unfolding heldEffect
-    by-held q bs u f = s .finishes m d bs (heldEffect q k) (beginning false (heldEffect q k .device)) u (rests (m .device)) (rests-codes (m .device)) (at q f)
+    unfolding heldEffect effect
+    by-held q bs e u f = s .finishes m d bs (heldEffect q k) (beginning false (heldEffect q k .device)) u (rests (m .device)) (rests-codes (m .device)) refl (at q e f)
       where
+        -- the held F4 is taken out before it takes effect
         d : Device
-        d = rested (m .device)
+        d = withHeld held.Nothing (rested (m .device))
 
         k : Machine
-        k = lands m d bs
+        k = lands m (rested (m .device)) bs
 
-        at : (q : Held) → isBarred (heldBegins q (d .phase)) (m .ledger) ≡ false → P k done (heldEffect q k) (beginning false (heldEffect q k .device))
-        at held.Nothing f = rw (rests (m .device)) (s .stays k d refl (λ _. refl))
-        at (held.Byte v) f = by-effect k v (rests (m .device)) (rw (lands-begun m d bs) f)
+        at : (q : Held) → m .device .held ≡ q → isBarred (heldBegins q (d .phase)) (m .ledger) ≡ false
+            → P (lands m d bs) done (heldEffect q k) (beginning false (heldEffect q k .device))
+        at held.Nothing e f =
+            subst (λ (h : Held). P (lands m d bs) done (lands m (withHeld h (rested (m .device))) bs) (beginning false (rested (m .device)))) (sym (rests-held (m .device) ∙ e))
+            (rw (rests (m .device)) (s .stays (lands m d bs) d refl (λ _. refl) (λ _ z. z)))
+        at (held.Byte v) e f = by-effect (lands m d bs) v (rests (m .device)) (rw (lands-begun m d bs) f)
 
     by-finish : (t p h : ℕ) → Of (tells m (Finish t p h)) (ev.finished m t p h)
     by-finish t p h =
@@ -154,7 +165,7 @@ module _ (P : Machine → ℕ → Machine → List Happening → Type 0) (s : St
         pick Q (not (mayFinish (m .device))) (λ _. no wrongPhase refl) λ u.
         pick Q (not (inRange t p h)) (λ _. no outOfRange refl) λ _.
         pick Q (isBarred (heldBegins (m .device .held) (rested (m .device) .phase)) (m .ledger)) (λ _. no allBegun refl) λ f.
-        by-held (m .device .held) (stored (m .device) t p h) (not-false (busy m) u) f
+        by-held (m .device .held) (stored (m .device) t p h) refl (not-false (busy m) u) f
 
     by-wake : Of (tells m Wake) (ev.woken m)
     by-wake =
@@ -183,7 +194,7 @@ module _ (P : Machine → ℕ → Machine → List Happening → Type 0) (s : St
     pub walk : (e : Event) → P m (answer m e) (next m e) (told m e)
     walk Power = s .loses m
     walk Copied =
-        pick (Of (λ d. [])) (not (m .device .copying)) (λ _. no wrongPhase refl) (λ _. s .stays m (withCopying false (m .device)) refl (λ _. refl))
+        pick (Of (λ d. [])) (not (m .device .copying)) (λ _. no wrongPhase refl) (λ _. s .stays m (withCopying false (m .device)) refl (λ _. refl) (λ _ z. z))
     walk (Write a v) = by-write a v
     walk (Finish t p h) = by-finish t p h
     walk Wake = by-wake

@@ -8,7 +8,6 @@ use lib.ListN.{length}
 use Rattle.paper.specs.Numbers.{done}
 use Rattle.paper.specs.Registers as reg
 use Rattle.machine.specs.declared.Phase.the-variants.{Sleep, Standby}
-use Rattle.machine.specs.declared.Held.the-variants.{Nothing}
 use Rattle.machine.specs.declared.Burst.the-variants.{Closed}
 use Rattle.machine.specs.declared.Codes.{Codes}
 use Rattle.machine.specs.declared.Closing.{Closing}
@@ -89,10 +88,9 @@ pub record WriteRunsTruly (m : Machine) (t : Turn) : Type 0 where
   pub delivers : let x = closed (after m (byWrite t ++ measured t)) (t .lent) in
       Delivers (m .ledger .begun + 1) (m .ledger .delivered + 1) (codesOf t) t (x .0) (x .1)
 
--- in standby, with nothing held, no burst open and room for one more
+-- in standby, with no burst open and room for one more
 pub record MayBeginByWake (m : Machine) : Type 0 where
   pub stands-by : m .device .phase ≡ Standby
-  pub none-held : m .device .held ≡ Nothing
   pub none-open : m .burst ≡ Closed
   pub has-room : m .ledger .begun < reg.mostBegun
 
