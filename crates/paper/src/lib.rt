@@ -79,6 +79,9 @@ pub const BME280: u8 = 0x60;
 
 pub const RESET_WORD: u8 = 0xB6;
 
+// The data bytes of the fresh state.
+pub const FRESH_BYTES: [u8; 8] = [0x80, 0x00, 0x00, 0x80, 0x00, 0x00, 0x80, 0x00];
+
 // Device addresses on I2C.
 pub const I2C_LOW: u8 = 0x76;
 
@@ -94,9 +97,6 @@ pub const COUNT_16: u32 = 0x10000;
 pub const SKIPPED_20: u32 = 0x80000;
 
 pub const SKIPPED_16: u32 = 0x8000;
-
-// The data bytes of the fresh state.
-pub const FRESH_BYTES: [u8; 8] = [0x80, 0x00, 0x00, 0x80, 0x00, 0x00, 0x80, 0x00];
 
 pub const MOST_PAIRS: usize = 16;
 
