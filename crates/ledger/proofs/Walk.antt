@@ -65,6 +65,10 @@ standing-by Forced e = absurd (false≢true e)
 standing-by Normal e = absurd (false≢true e)
 standing-by Standby e = refl
 
+-- only a running conversion may finish
+finishing-runs : (d : Device) → mayFinish d ≡ true → runs (d .phase) ≡ true
+finishing-runs d e = e
+
 rests : (d : Device) → runs (rested d .phase) ≡ false
 rests d = pick (λ (k : Device). runs (k .phase) ≡ false) (isForced (d .phase)) (λ _. refl) (λ _. refl)
 
@@ -165,7 +169,7 @@ module _ (P : Machine → ℕ → Machine → List Happening → Type 0) (s : St
         pick Q (not (mayFinish (m .device))) (λ _. no wrongPhase refl) λ u.
         pick Q (not (inRange t p h)) (λ _. no outOfRange refl) λ _.
         pick Q (isBarred (heldBegins (m .device .held) (rested (m .device) .phase)) (m .ledger)) (λ _. no allBegun refl) λ f.
-        by-held (m .device .held) (stored (m .device) t p h) refl (not-false (busy m) u) f
+        by-held (m .device .held) (stored (m .device) t p h) refl (finishing-runs (m .device) (not-false (mayFinish (m .device)) u)) f
 
     by-wake : Of (tells m Wake) (ev.woken m)
     by-wake =
