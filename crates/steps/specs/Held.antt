@@ -4,6 +4,7 @@ use mathlib.Core.Path.{_≡_, refl, sym, ap, _∙_}
 use mathlib.Core.Bool.{Bool, true, false, cond}
 use native.Mathlib.Omega.{arith}
 use lib.IntN.{ℤ}
+use Rattle.paper.specs.Numbers as no
 use Rattle.steps.specs.declared.Signed.{Signed}
 use Rattle.steps.specs.declared.Num.{Num}
 use Rattle.steps.specs.declared.Num.the-variants.{Value, Broke}
@@ -20,7 +21,7 @@ EndsInStep (test p n a) = EndsInStep a
 kept-fits : (w : Signed) (z x : ℤ) → kept w z ≡ Value x → fits w x ≡ true
 kept-fits w z x h = go (fits w z) refl h
   where
-    go : (b : Bool) → fits w z ≡ b → cond b (Value z) (Broke 12) ≡ Value x → fits w x ≡ true
+    go : (b : Bool) → fits w z ≡ b → cond b (Value z) (Broke no.leftItsType) ≡ Value x → fits w x ≡ true
     go true e h = let same : z ≡ x = cc in ap (fits w) (sym same) ∙ e
     go false e h = cc
 
