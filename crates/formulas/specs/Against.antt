@@ -1,21 +1,20 @@
 -- The formulas against the same lines with no check: what Exact.antt states, in parts.
-use Prim.Native.Nat.{ℕ, _/_, _≤_, min}
+use Prim.Native.Nat.{ℕ, _≤_}
 use mathlib.Core.Path.{_≡_, refl, sym, ap, _∙_}
-use mathlib.Core.Bool.{Bool, true, false, _&&_}
+use mathlib.Core.Bool.{true, _&&_}
 use native.Mathlib.Omega.{arith}
 use lib.IntN.{ℤ, pos, negsuc, natAbs}
 use Rattle.steps.specs.declared.Signed.the-variants.{Bits32, Bits64}
 use Rattle.steps.specs.declared.Num.{Num}
 use Rattle.steps.specs.declared.Num.the-variants.{Value, Broke}
 use Rattle.steps.specs.Step.{isNonzero, onValue}
-use Rattle.steps.specs.Work.{plain, needs, allMet, stepValues, testsHold, allFit, run, _>>ℤ_}
-use Rattle.steps.specs.Exactness.{accepted, only-then, met-is, and-parts}
+use Rattle.steps.specs.Work.{plain, needs, allMet, stepValues, testsHold, allFit, verdict, run, _>>ℤ_}
+use Rattle.steps.specs.Exactness.{exact, accepted, only-then, met-is, and-parts}
 use Rattle.steps.specs.Held.{from-value}
 use Rattle.calibration.specs.declared.TemperatureWords.{TemperatureWords}
 use Rattle.calibration.specs.declared.PressureWords.{PressureWords}
 use Rattle.calibration.specs.declared.HumidityWords.{HumidityWords}
-use Rattle.formulas.specs.declared.TemperatureAnswer.{TemperatureAnswer}
-use Rattle.formulas.specs.declared.TemperatureAnswer.the-variants.{Known, Missing}
+use Rattle.formulas.specs.declared.TemperatureAnswer.the-variants.{Known}
 use Rattle.formulas.specs.declared.PressureAnswer.the-variants as pressure
 use Rattle.formulas.specs.declared.HumidityAnswer.the-variants as humidity
 use Rattle.formulas.specs.Temperature as t
@@ -77,6 +76,14 @@ module _ (words : TemperatureWords) (count : ℕ) where
       known : (fine : ℤ) → run Bits32 (t.fineLines words count) ≡ Value fine → run Bits32 (t.degreesLine fine) ≡ Value (t.plainTemperature words count) → t.fromFine (run Bits32 (t.fineLines words count)) ≡ Known (t.plainTemperature words count) (t.plainFine words count)
       known fine f d = rw (f, d) (ap (Known (t.plainTemperature words count)) (only-then Bits32 (t.fineLines words count) fine f .1 ∙ fine-plain))
 
+  -- by the fine temperature's answer: its value is the plain one, and its refusal is the formula's
+  pub temperature-verdict : t.temperatureOf words count ≡ t.withFine (t.plainFine words count) (verdict Bits32 (needs (t.temperatureFormula words count)) (t.plainTemperature words count))
+  temperature-verdict = answer-is ∙ by-fine (run Bits32 (t.fineLines words count)) refl ∙ ap (t.withFine (t.plainFine words count)) (sym formula-is ∙ exact Bits32 (t.temperatureFormula words count) ∙ ap (verdict Bits32 (needs (t.temperatureFormula words count))) temperature-plain)
+    where
+      by-fine : (a : Num) → run Bits32 (t.fineLines words count) ≡ a → t.fromFine a ≡ t.withFine (t.plainFine words count) (onValue a (λ fine. run Bits32 (t.degreesLine fine)))
+      by-fine (Value fine) e = unfold onValue in ap (λ (f : ℤ). t.withFine f (run Bits32 (t.degreesLine fine))) (only-then Bits32 (t.fineLines words count) fine e .1 ∙ fine-plain)
+      by-fine (Broke n) e = unfold onValue in refl
+
 -- ---- pressure
 
 -- an answer that is known is a value without its sign
@@ -108,6 +115,9 @@ module _ (words : PressureWords) (fine : ℤ) (count : ℕ) where
   pressure-is : p.pressureOf words fine count ≡ p.answered (run Bits64 (p.pressureFormula words fine count))
   unfolding p.pressureOf
   pressure-is = refl
+
+  pub pressure-verdict : p.pressureOf words fine count ≡ p.answered (verdict Bits64 (needs (p.pressureFormula words fine count)) (p.plainPressure words fine count))
+  pressure-verdict = pressure-is ∙ ap p.answered (exact Bits64 (p.pressureFormula words fine count) ∙ ap (verdict Bits64 (needs (p.pressureFormula words fine count))) pressure-plain)
 
   pub pressure-only : (value : ℕ) → p.pressureOf words fine count ≡ pressure.Known value → (pos value ≡ p.plainPressure words fine count) × (allFit Bits64 (pressureSteps words fine count) ≡ true) × (isNonzero (p.plainDivisor words fine) ≡ true) × (p.isPressure (p.plainPressure words fine count) ≡ true)
   pressure-only value e = pressure-known _ (run Bits64 (p.pressureFormula words fine count)) value (sym pressure-is ∙ e) parts
@@ -152,6 +162,9 @@ module _ (words : HumidityWords) (fine : ℤ) (count : ℕ) where
   humidity-is : h.humidityOf words fine count ≡ h.answered (run Bits32 (h.humidityFormula words fine count))
   unfolding h.humidityOf
   humidity-is = refl
+
+  pub humidity-verdict : h.humidityOf words fine count ≡ h.answered (verdict Bits32 (needs (h.humidityFormula words fine count)) (h.plainHumidity words fine count))
+  humidity-verdict = humidity-is ∙ ap h.answered (exact Bits32 (h.humidityFormula words fine count) ∙ ap (verdict Bits32 (needs (h.humidityFormula words fine count))) humidity-plain)
 
   plain-clamped : plain (h.humidityFormula words fine count) ≡ h.clamped (plain (h.humidityLines words fine count)) >>ℤ 12
   unfolding plain h.lastLine h.humidityFormula

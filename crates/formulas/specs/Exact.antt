@@ -1,23 +1,26 @@
 -- Each answer against the maker's formula with no check: a value is given exactly where every step fits its width, the divisor is
--- not zero and the range holds, and it is then the plain formula's. A humidity given lies within 0 and 102400.
+-- not zero and the range holds, and it is then the plain formula's; else the first step that does not fit, or the first test that
+-- does not hold, gives its number. A humidity given lies within 0 and 102400.
 use Prim.Native.Nat.{ℕ, _≤_}
 use mathlib.Core.Path.{_≡_, sym, ap, _∙_}
 use mathlib.Core.Bool.{true}
 use lib.IntN.{ℤ, pos, natAbs}
 use Rattle.steps.specs.declared.Signed.the-variants.{Bits32, Bits64}
 use Rattle.steps.specs.Step.{isNonzero}
-use Rattle.steps.specs.Work.{allFit}
+use Rattle.steps.specs.Work.{needs, allFit, verdict}
 use Rattle.calibration.specs.declared.TemperatureWords.{TemperatureWords}
 use Rattle.calibration.specs.declared.PressureWords.{PressureWords}
 use Rattle.calibration.specs.declared.HumidityWords.{HumidityWords}
 use Rattle.formulas.specs.declared.TemperatureAnswer.the-variants as temperature
 use Rattle.formulas.specs.declared.PressureAnswer.the-variants as pressure
 use Rattle.formulas.specs.declared.HumidityAnswer.the-variants as humidity
-use Rattle.formulas.specs.Temperature.{temperatureOf, plainFine, plainTemperature}
-use Rattle.formulas.specs.Pressure.{pressureOf, isPressure, plainDivisor, plainPressure}
-use Rattle.formulas.specs.Humidity.{humidityOf, plainHumidity}
+use Rattle.formulas.specs.Temperature.{temperatureFormula, withFine, temperatureOf, plainFine, plainTemperature}
+use Rattle.formulas.specs.Pressure.{pressureFormula, pressureOf, isPressure, plainDivisor, plainPressure}
+use Rattle.formulas.specs.Humidity.{humidityFormula, humidityOf, plainHumidity}
+use Rattle.formulas.specs.Pressure as p
+use Rattle.formulas.specs.Humidity as h
 use Rattle.formulas.specs.Listed.{temperatureSteps, pressureSteps, humiditySteps}
-use Rattle.formulas.specs.Against.{temperature-only, temperature-where, pressure-only, pressure-where, humidity-only, humidity-where, plain-le}
+use Rattle.formulas.specs.Against.{temperature-only, temperature-where, temperature-verdict, pressure-only, pressure-where, pressure-verdict, humidity-only, humidity-where, humidity-verdict, plain-le}
 
 infix 2 _⇔_
 abbrev pub _⇔_ : Type 0 → Type 0 → Type 0
@@ -36,6 +39,9 @@ temperature-exact words count value fine = (
   λ x. temperature-where words count (x .steps-fit) ∙ cc,
 )
 
+pub temperature-first : (words : TemperatureWords) (count : ℕ) → temperatureOf words count ≡ withFine (plainFine words count) (verdict Bits32 (needs (temperatureFormula words count)) (plainTemperature words count))
+temperature-first = temperature-verdict
+
 -- ---- pressure
 
 pub record PressureExact (words : PressureWords) (fine : ℤ) (count value : ℕ) : Type 0 where
@@ -50,6 +56,9 @@ pressure-exact words fine count value = (
   λ x. pressure-where words fine count (x .steps-fit) (x .divisor-not-zero) (x .in-range) ∙ ap pressure.Known (ap natAbs (sym (x .value-is))),
 )
 
+pub pressure-first : (words : PressureWords) (fine : ℤ) (count : ℕ) → pressureOf words fine count ≡ p.answered (verdict Bits64 (needs (pressureFormula words fine count)) (plainPressure words fine count))
+pressure-first = pressure-verdict
+
 -- ---- humidity
 
 pub record HumidityExact (words : HumidityWords) (fine : ℤ) (count value : ℕ) : Type 0 where
@@ -61,6 +70,9 @@ humidity-exact words fine count value = (
   λ e. let q = humidity-only words fine count value e in record { value-is = q .0; steps-fit = q .1 },
   λ x. humidity-where words fine count (x .steps-fit) ∙ ap humidity.Known (ap natAbs (sym (x .value-is))),
 )
+
+pub humidity-first : (words : HumidityWords) (fine : ℤ) (count : ℕ) → humidityOf words fine count ≡ h.answered (verdict Bits32 (needs (humidityFormula words fine count)) (plainHumidity words fine count))
+humidity-first = humidity-verdict
 
 pub humidity-within : (words : HumidityWords) (fine : ℤ) (count value : ℕ) → humidityOf words fine count ≡ humidity.Known value → value ≤ 102400
 humidity-within words fine count value e = rw (ap natAbs (humidity-only words fine count value e .0)) (plain-le words fine count)

@@ -32,7 +32,7 @@ offsetLines words difference =
 
 -- var1 = ((var1 * var1 * P3) >> 8) + ((var1 * P2) << 12);
 -- var1 = (((1 << 47) + var1)) * P1 >> 33;
--- if (var1 == 0) return 0;
+-- if (var1 == 0) return 0;  (here the number for a divisor zero in the place of the 0)
 unfoldable pub divisorLines : PressureWords → ℤ → Work
 divisorLines words difference =
     let P1 = num (words .p1) in

@@ -20,6 +20,7 @@ pub enum Operation {
     Quotient,
 }
 
+// The sum, where 64 bits and the width hold it.
 fn sum(width: Signed, x: i64, y: i64) -> Num
     ensures { λ r. ⌜ r ≡ kept width (x +ℤ y) ⌝ }
 {
@@ -30,6 +31,7 @@ fn sum(width: Signed, x: i64, y: i64) -> Num
     }
 }
 
+// The difference, where 64 bits and the width hold it.
 fn difference(width: Signed, x: i64, y: i64) -> Num
     ensures { λ r. ⌜ r ≡ kept width (x -ℤ y) ⌝ }
 {
@@ -40,6 +42,7 @@ fn difference(width: Signed, x: i64, y: i64) -> Num
     }
 }
 
+// The product, where 64 bits and the width hold it.
 fn product(width: Signed, x: i64, y: i64) -> Num
     ensures { λ r. ⌜ r ≡ kept width (x *ℤ y) ⌝ }
 {
@@ -50,7 +53,7 @@ fn product(width: Signed, x: i64, y: i64) -> Num
     }
 }
 
-// Rounded toward zero. By -1 it is a difference, since the machine's division of the least number by it is undefined.
+// The quotient, rounded toward zero. By -1 it is a difference, since the machine's division of the least number by it is undefined.
 fn divide(width: Signed, x: i64, y: i64) -> Num
     ensures { λ r. ⌜ r ≡ quotient width x y ⌝ }
 {
@@ -63,6 +66,7 @@ fn divide(width: Signed, x: i64, y: i64) -> Num
     keep(width, x / y)
 }
 
+// The operation's result on two values.
 fn apply(width: Signed, operation: Operation, x: i64, y: i64) -> Num
     ensures { λ r. ⌜ r ≡ applied width operation x y ⌝ }
 {
