@@ -4,3 +4,4 @@ pub mod Buffers
 pub mod Addresses
 pub mod Shapes
 pub mod Numbers
+pub mod RoundTrip

@@ -24,6 +24,11 @@ use Rattle.bus.specs.Writing.{pairsNumber, message, firstOf, body, isSha
 pub pairs-even : (s : List ℕ) → arePairs s ≡ true → isEven s ≡ true
 pairs-even s e = both (isEven s) (leb 1 (length s) && leb (length s) (2 * reg.mostPairs)) e .0
 
+pub pairs-some : (s : List ℕ) → arePairs s ≡ true → 1 ≤ length s
+pairs-some s e =
+    let (even, limits) = both (isEven s) (leb 1 (length s) && leb (length s) (2 * reg.mostPairs)) e in
+    leb-true 1 (length s) (both (leb 1 (length s)) (leb (length s) (2 * reg.mostPairs)) limits .0)
+
 module _ (bus : Bus) (bytes : List ℕ) (e : isShaped bus bytes ≡ true) where
   parts : (leb 1 (length bytes) ≡ true) × ((isLed bus (firstOf bytes) && (isEven (body bus bytes) && every (isCarried bus) (body bus bytes))) ≡ true)
   unfolding isShaped
