@@ -1,5 +1,5 @@
 -- K10, and the reads of the same devices.
-use mathlib.Core.List.{List, [], _∷_, _++_}
+use mathlib.Core.List.{[], _∷_}
 use mathlib.Core.Path.{_≡_, refl}
 use Rattle.paper.specs.Registers as reg
 use Rattle.paper.specs.Answers.{given}

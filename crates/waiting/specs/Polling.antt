@@ -43,9 +43,9 @@ pollAnswer (Ready at polls) = given (at ∷ polls ∷ [])
 pollAnswer (Never polls) = never polls
 
 pub k11-ready : polled (0x08 ∷ 0x09 ∷ 0x00 ∷ []) 3 ≡ given (2 ∷ 3 ∷ [])
-unfolding isReady firstReady polled
+unfolding firstReady polled
 k11-ready = refl
 
 pub k11-never : polled (0x08 ∷ 0x09 ∷ 0x00 ∷ []) 2 ≡ never 2
-unfolding isReady firstReady polled
+unfolding firstReady polled
 k11-never = refl

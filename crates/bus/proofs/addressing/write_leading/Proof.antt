@@ -1,5 +1,4 @@
 -- On I2C one byte is stored at the front, an address that passed doubled; on SPI nothing is.
-use mathlib.Core.Path.{_≡_}
 use Prim.Native.Nat.{_≤_}
 use native.Mathlib.Omega.{arith}
 use borrow.Author.Needs.{needs}

@@ -1,5 +1,4 @@
 -- On I2C three bytes are stored at the front, made of an address that passed; on SPI one.
-use mathlib.Core.Path.{_≡_}
 use Prim.Native.Nat.{_≤_}
 use native.Mathlib.Omega.{arith}
 use borrow.Author.Needs.{needs}
