@@ -14,7 +14,7 @@ use Rattle.bus.specs.declared.Bus.the-variants.{I2c, Spi}
 use Rattle.bus.specs.declared.Device.{Device}
 use Rattle.bus.specs.declared.Device.the-variants.{At, Selected}
 use Rattle.bus.specs.declared.register.Change.{Change}
-use Rattle.bus.specs.RegisterByte.{isWritable, isCarried, changed, sending, receiving}
+use Rattle.bus.specs.RegisterByte.{isWritable, isCarried, bit7, changed, sending, receiving}
 use Rattle.bus.specs.Pairs.{every, withRegisters}
 use Rattle.bus.specs.Devices.{busOf, isDevice, leading, isLed, addressed}
 use Rattle.bus.specs.Writing.{firstOf, body}
@@ -33,11 +33,11 @@ back Spi register e =
 -- and a byte that the wire carries is sent again
 pub again : (bus : Bus) (byte : ℕ) → isCarried bus byte ≡ true → changed (sending bus) (changed (receiving bus) byte) ≡ byte
 again I2c byte e = refl
-again Spi byte e = let h : byte < 128 = ltb-true byte 128 e in omega arith
+again Spi byte e = let h : byte < bit7 = ltb-true byte bit7 e in omega arith
 
 pub carried : (bus : Bus) (register : ℕ) → isCarried bus (changed (sending bus) register) ≡ true
 carried I2c register = refl
-carried Spi register = lt-ltb (register % 128) 128 (omega arith)
+carried Spi register = lt-ltb (register % bit7) bit7 (omega arith)
 
 -- ---- every register
 
