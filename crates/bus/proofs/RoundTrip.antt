@@ -57,10 +57,10 @@ module _ (device : Device) (pairs : List ℕ) (d : isDevice device ≡ true) (a 
 -- ---- decoded, then encoded
 
 module _ (bus : Bus) (bytes : List ℕ) (shaped : isShaped bus bytes ≡ true) (a : arePairs (body bus bytes) ≡ true) (w : every (meansWritable bus) (body bus bytes) ≡ true) where
-  abbrev device′ : Device
-  device′ = addressed bus (firstOf bytes)
+  abbrev target : Device
+  target = addressed bus (firstOf bytes)
 
-  same-bytes : message device′ (pairsOf bus bytes) ≡ bytes
+  same-bytes : message target (pairsOf bus bytes) ≡ bytes
   unfolding message pairsOf
   same-bytes =
       rw (same-bus bus (firstOf bytes), undone (isCarried bus) (receiving bus) (sending bus) (again bus) (body bus bytes) (shaped-carried bus bytes shaped))
@@ -77,14 +77,15 @@ module _ (bus : Bus) (bytes : List ℕ) (shaped : isShaped bus bytes ≡ true) (
 
   received-encoded :
       (lent : List ℕ) → length bytes ≤ length lent →
-      encodedWrite device′ (pairsOf bus bytes) lent ≡ (given (length bytes ∷ []), laidOver bytes lent)
+      encodedWrite target (pairsOf bus bytes) lent ≡ (given (length bytes ∷ []), laidOver bytes lent)
   unfolding encodedWrite
   received-encoded lent h =
-      let number = encode-passes device′ (pairsOf bus bytes) (length bytes) (length lent) (is-device bus (firstOf bytes) (shaped-led bus bytes shaped)) (received-sendable (length lent) h) in
+      let number = encode-passes target (pairsOf bus bytes) (length bytes) (length lent) (is-device bus (firstOf bytes) (shaped-led bus bytes shaped)) (received-sendable (length lent) h) in
       rw same-bytes (sym (handing [] bytes lent refl number refl refl))
 
 -- ---- the two theorems, for any lent buffer with room
 
+-- the bytes that were encoded, on either bus and for either address, decode to the same pairs and the same device
 pub decodes-back :
     (device : Device) (pairs lent : List ℕ) (n : ℕ) (sent : List ℕ) → encodedWrite device pairs lent ≡ (given (n ∷ []), sent) →
     (lent′ : List ℕ) → length pairs ≤ length lent′ →
@@ -97,6 +98,7 @@ decodes-back device pairs lent n sent e lent′ h =
     let bytes : take n sent ≡ message device pairs = rw long at (b .front) in
     rw bytes (sent-decoded device pairs d (sendable .pairwise) (sendable .tested) lent′ h)
 
+-- whatever decodes is encoded, for the device that decoding gave, to the same bytes again
 pub encodes-back :
     (bus : Bus) (bytes lent : List ℕ) (device : Device) (n : ℕ) (received : List ℕ) → decodedWrite bus bytes lent ≡ (given (addresses device ++ n ∷ []), received) →
     (lent′ : List ℕ) → length bytes ≤ length lent′ →
