@@ -10,6 +10,7 @@ use lib.Seq.{drop-cons, drop-length, take-suc-set, drop-set-lt, drop-drop}
 use borrow.Author.Tests.{eqb-true}
 use Rattle.bus.specs.declared.register.Change.{Change}
 use Rattle.bus.specs.RegisterByte.{changed}
+use Rattle.bus.specs.Lent.{laidOver}
 use Rattle.bus.specs.Pairs.{isEven, every, withRegisters}
 
 drop-pair : (s : List ℕ) (i : ℕ) → i + 1 < length s → drop i s ≡ getD s i 0 ∷ getD s (i + 1) 0 ∷ drop (i + 2) s
@@ -55,6 +56,12 @@ module _ (test : ℕ → Bool) (s : List ℕ) where
     asking-done h = rw (drop-of-length-le s h) at (a .rest)
 
 -- ---- changing every register
+
+pub changed-length : (change : Change) (s : List ℕ) → length (withRegisters change s) ≡ length s
+unfolding withRegisters
+changed-length change [] = refl
+changed-length change (register ∷ []) = refl
+changed-length change (register ∷ value ∷ s) = ap (λ n. suc (suc n)) (changed-length change s)
 
 -- two bytes are stored, one after the other
 module _ (lent : List ℕ) (i a b : ℕ) (h : i + 1 < length lent) where
@@ -104,10 +111,10 @@ module _ (change : Change) (s lent₀ : List ℕ) where
           back = drop-stored lent i _ _ g′ ∙ drop-more lent lent₀ i 2 (c .back);
         }
 
-    pub changing-done : length s ≤ i → lent ≡ withRegisters change s ++ drop (length s) lent₀
+    pub changing-done : length s ≤ i → lent ≡ laidOver (withRegisters change s) lent₀
     unfolding withRegisters
     changing-done h =
         let p : i ≡ length s = omega arith in
         let e : take (length s) lent ≡ withRegisters change s = sym (append-nil _) ∙ rw (p, drop-length) at (c .front) in
         let d : drop (length s) lent ≡ drop (length s) lent₀ = rw p at (c .back) in
-        sym (take-append-drop (length s) lent) ∙ rw (e, d)
+        sym (take-append-drop (length s) lent) ∙ rw (changed-length change s, e, d)

@@ -4,3 +4,6 @@ pub mod Buffers
 pub mod Addresses
 pub mod Shapes
 pub mod Numbers
+pub mod Wire
+pub mod RoundTrip
+pub mod OneAnswer

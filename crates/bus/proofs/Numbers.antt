@@ -1,20 +1,22 @@
 -- A number is 0 exactly where every check holds, and by the number a lent buffer is written or not.
-use mathlib.Core.Path.{_≡_, refl, sym, _∙_}
+use mathlib.Core.Path.{_≡_, refl, ap}
 use mathlib.Core.Bool.{Bool, true, false}
 use mathlib.Core.List.{List, [], _∷_, _++_}
 use Prim.Native.Nat.{ℕ, _≤_}
 use native.Mathlib.Omega.{arith}
-use lib.Dec.{leb}
-use lib.ListN.{length, drop}
-use borrow.Author.Tests.{leb-true, le-leb, eq-eqb, ne-eqb}
+use lib.Dec.{eqb, leb}
+use lib.ListN.{length, take, drop}
+use lib.Seq.{take-append-seam}
+use borrow.Author.Tests.{leb-true, le-leb, eq-eqb, ne-eqb, eqb-true, eqb-false}
+use Rattle.laws.specs.Tests.{pick}
 use Rattle.paper.specs.Numbers as no
-use Rattle.paper.specs.Answers.{given, refused}
+use Rattle.paper.specs.Answers.{Answer, given, refused}
 use Rattle.bus.specs.declared.Bus.{Bus}
 use Rattle.bus.specs.declared.Device.{Device}
 use Rattle.bus.specs.RegisterByte.{isWritable, isReadable}
 use Rattle.bus.specs.Pairs.{arePairs, every}
 use Rattle.bus.specs.Devices.{isDevice}
-use Rattle.bus.specs.Lent.{check, handed}
+use Rattle.bus.specs.Lent.{check, laidOver, handed}
 use Rattle.bus.specs.Writing.{pairsNumber, encodeNumber, decodeNumber, isShaped, body, meansWritable}
 use Rattle.bus.specs.Reading.{readNumber}
 
@@ -82,6 +84,26 @@ module _ {k number : ℕ} (values bytes lent : List ℕ) (e : k ≡ number) wher
   refusing h = rw (← e, ne-eqb k no.done h)
 
   pub handing :
-      {n : ℕ} {x : List ℕ} → k ≡ no.done → n ≡ length bytes → x ≡ bytes ++ drop (length bytes) lent → (given (values ++ n ∷ []), x) ≡ handed number values bytes lent
+      {n : ℕ} {x : List ℕ} → k ≡ no.done → n ≡ length bytes → x ≡ laidOver bytes lent → (given (values ++ n ∷ []), x) ≡ handed number values bytes lent
   unfolding handed
   handing z p q = rw (← e, eq-eqb k no.done z, p, q)
+
+-- and what an answer that was given says of the number and of the buffer
+module _ (number : ℕ) (values bytes lent values′ lent′ : List ℕ) where
+  pub record Written : Type 0 where
+    pub done : number ≡ no.done
+    pub given-values : (values ++ length bytes ∷ []) ≡ values′
+    pub front : take (length bytes) lent′ ≡ bytes
+
+  pub handed-back : handed number values bytes lent ≡ (given values′, lent′) → Written
+  unfolding handed
+  handed-back =
+      pick (λ (outcome : Answer × List ℕ). outcome ≡ (given values′, lent′) → Written) (eqb number no.done)
+      (λ e o.
+      let l : laidOver bytes lent ≡ lent′ = ap (λ (outcome : Answer × List ℕ). outcome .1) o in
+      record {
+        done = eqb-true number no.done e;
+        given-values = ap (λ (outcome : Answer × List ℕ). outcome .0 .values) o;
+        front = rw (← l) (take-append-seam bytes (drop (length bytes) lent));
+      })
+      (λ e o. absurd (eqb-false number no.done e (ap (λ (outcome : Answer × List ℕ). outcome .0 .number) o)))

@@ -1,14 +1,15 @@
 -- What the tests of pairs and of a shape say, and how long changed pairs are.
-use mathlib.Core.Path.{_≡_, refl, ap, subst}
+use mathlib.Core.Path.{_≡_, refl, subst}
 use mathlib.Core.Bool.{true, _&&_}
-use mathlib.Core.List.{List, [], _∷_}
-use Prim.Native.Nat.{ℕ, suc, _+_, _*_, _≤_}
+use mathlib.Core.List.{List}
+use Prim.Native.Nat.{ℕ, _+_, _*_, _≤_}
 use native.Mathlib.Omega.{arith}
 use lib.Dec.{leb}
 use lib.ListN.{length}
 use borrow.Author.Tests.{leb-true}
 use Rattle.laws.specs.Tests.{both}
 use Rattle.paper.specs.Registers as reg
+use Rattle.bus.proofs.FlatPairs.{changed-length}
 use Rattle.bus.specs.declared.Bus.{Bus}
 use Rattle.bus.specs.declared.Bus.the-variants.{I2c, Spi}
 use Rattle.bus.specs.declared.Device.{Device}
@@ -17,12 +18,17 @@ use Rattle.bus.specs.declared.register.Change.{Change}
 use Rattle.bus.specs.declared.register.Test.the-variants.{Writable}
 use Rattle.bus.specs.RegisterByte.{isCarried, sending, receiving}
 use Rattle.bus.specs.Tests.{passes}
-use Rattle.bus.specs.Pairs.{isEven, arePairs, every, withRegisters}
+use Rattle.bus.specs.Pairs.{isEven, arePairs, every}
 use Rattle.bus.specs.Devices.{busOf, leading, leadingLength, isLed}
 use Rattle.bus.specs.Writing.{pairsNumber, message, firstOf, body, isShaped, meansWritable, pairsOf, decodeNumber}
 
 pub pairs-even : (s : List ℕ) → arePairs s ≡ true → isEven s ≡ true
 pairs-even s e = both (isEven s) (leb 1 (length s) && leb (length s) (2 * reg.mostPairs)) e .0
+
+pub pairs-some : (s : List ℕ) → arePairs s ≡ true → 1 ≤ length s
+pairs-some s e =
+    let (even, limits) = both (isEven s) (leb 1 (length s) && leb (length s) (2 * reg.mostPairs)) e in
+    leb-true 1 (length s) (both (leb 1 (length s)) (leb (length s) (2 * reg.mostPairs)) limits .0)
 
 module _ (bus : Bus) (bytes : List ℕ) (e : isShaped bus bytes ≡ true) where
   parts : (leb 1 (length bytes) ≡ true) × ((isLed bus (firstOf bytes) && (isEven (body bus bytes) && every (isCarried bus) (body bus bytes))) ≡ true)
@@ -43,12 +49,6 @@ module _ (bus : Bus) (bytes : List ℕ) (e : isShaped bus bytes ≡ true) where
 
   pub shaped-carried : every (isCarried bus) (body bus bytes) ≡ true
   shaped-carried = both (isEven (body bus bytes)) (every (isCarried bus) (body bus bytes)) (after .1) .1
-
-pub changed-length : (change : Change) (s : List ℕ) → length (withRegisters change s) ≡ length s
-unfolding withRegisters
-changed-length change [] = refl
-changed-length change (register ∷ []) = refl
-changed-length change (register ∷ value ∷ s) = ap (λ n. suc (suc n)) (changed-length change s)
 
 pub message-length : (device : Device) (pairs : List ℕ) → length (message device pairs) ≡ leadingLength (busOf device) + length pairs
 unfolding message

@@ -11,7 +11,11 @@ use Rattle.paper.specs.Answers.{Answer, given, refused}
 abbrev pub check : Bool → ℕ → ℕ → ℕ
 check test number next = cond test next number
 
--- the answer, and what the lent buffer holds then: by 0 the bytes at its front, their number being the last value
+-- bytes at the front of a lent buffer, and what was there past them
+abbrev pub laidOver : List ℕ → List ℕ → List ℕ
+laidOver bytes lent = bytes ++ drop (length bytes) lent
+
+-- the answer, and what the lent buffer holds then; how many bytes were written is the last value
 unfoldable pub handed : ℕ → List ℕ → List ℕ → List ℕ → Answer × List ℕ
 handed number values bytes lent =
-    cond (eqb number no.done) (given (values ++ length bytes ∷ []), bytes ++ drop (length bytes) lent) (refused number, lent)
+    cond (eqb number no.done) (given (values ++ length bytes ∷ []), laidOver bytes lent) (refused number, lent)

@@ -13,14 +13,17 @@ abbrev pub isWritable : ℕ → Bool
 isWritable register =
     eqb register reg.ctrlHum || (eqb register reg.ctrlMeas || (eqb register reg.config || eqb register reg.reset))
 
--- reads take 0x80 to 0xFF
+-- reads take 0x80 to 0xFF, and no byte is larger
 abbrev pub isReadable : ℕ → Bool
 isReadable register = leb reg.firstRegister register
 
+abbrev pub bit7 : ℕ
+bit7 = 0x80
+
 abbrev pub changed : Change → ℕ → ℕ
 changed Keep register = register
-changed ClearBit7 register = register % 128
-changed SetBit7 register = register % 128 + 128
+changed ClearBit7 register = register % bit7
+changed SetBit7 register = register % bit7 + bit7
 
 -- I2C carries the register as it is; SPI writes send it with bit 7 clear, and decoding sets bit 7 again
 abbrev pub sending : Bus → Change
@@ -34,4 +37,4 @@ receiving Spi = SetBit7
 -- the register bytes that a write can have on the bus
 abbrev pub isCarried : Bus → ℕ → Bool
 isCarried I2c byte = true
-isCarried Spi byte = ltb byte 128
+isCarried Spi byte = ltb byte bit7

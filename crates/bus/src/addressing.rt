@@ -1,9 +1,9 @@
 // Devices: which there can be, and the bytes that say which one is meant.
 ghost use mathlib.Core.Path.{_≡_};
 ghost use mathlib.Core.Bool.{true};
-ghost use mathlib.Core.List.{_++_};
-ghost use Prim.Native.Nat.{_≤_, _<_};
-ghost use lib.ListN.{length, drop};
+ghost use Prim.Native.Nat.{_≤_};
+ghost use lib.ListN.{length};
+ghost use Rattle.bus.specs.Lent.{laidOver};
 ghost use Rattle.bus.specs.Devices.{busOf, isAddress, isDevice, leading, leadingLength, isDoubled, isLed, addressed as addressedBy};
 use crate::Bus;
 use crate::Device;
@@ -41,7 +41,7 @@ pub(crate) fn leading_length(bus: Bus) -> usize
 // Writes what a write has before its pairs to the front of the lent buffer.
 pub(crate) fn write_leading(device: Device, lent: &mut [u8])
     requires { ⌜ (isDevice device ≡ true) × (length (leading device) ≤ length (now lent)) ⌝ }
-    ensures { λ r. ⌜ now (lent .exit) ≡ leading device ++ drop (length (leading device)) (now (lent .entry)) ⌝ }
+    ensures { λ r. ⌜ now (lent .exit) ≡ laidOver (leading device) (now (lent .entry)) ⌝ }
 {
     match device {
         Device::At(address) => {

@@ -1,9 +1,9 @@
 // Pairs as flat bytes, register first.
 ghost use mathlib.Core.Path.{_≡_};
 ghost use mathlib.Core.Bool.{true};
-ghost use mathlib.Core.List.{_++_};
 ghost use Prim.Native.Nat.{_≤_};
-ghost use lib.ListN.{length, drop};
+ghost use lib.ListN.{length};
+ghost use Rattle.bus.specs.Lent.{laidOver};
 ghost use Rattle.bus.specs.Pairs.{isEven, arePairs, every as everyRegister, withRegisters};
 ghost use Rattle.bus.specs.Tests.{passes};
 use crate::register;
@@ -35,7 +35,7 @@ pub(crate) fn every(test: Test, pairs: &[u8]) -> bool
 // Writes the pairs with each register changed to the front of the lent buffer.
 pub(crate) fn write_changed(change: Change, pairs: &[u8], lent: &mut [u8])
     requires { ⌜ (isEven (now pairs) ≡ true) × (length (now pairs) ≤ length (now lent)) ⌝ }
-    ensures { λ r. ⌜ now (lent .exit) ≡ withRegisters change (now (pairs .entry)) ++ drop (length (now (pairs .entry))) (now (lent .entry)) ⌝ }
+    ensures { λ r. ⌜ now (lent .exit) ≡ laidOver (withRegisters change (now (pairs .entry))) (now (lent .entry)) ⌝ }
 {
     let mut i = 0;
     while i < pairs.len() {

@@ -1,9 +1,9 @@
 // The bytes that ask a device for a register.
 ghost use mathlib.Core.Path.{_≡_};
 ghost use mathlib.Core.Bool.{true};
-ghost use mathlib.Core.List.{_++_};
 ghost use Prim.Native.Nat.{_≤_};
-ghost use lib.ListN.{length, drop};
+ghost use lib.ListN.{length};
+ghost use Rattle.bus.specs.Lent.{laidOver};
 ghost use Rattle.bus.specs.Devices.{isDevice};
 ghost use Rattle.bus.specs.Reading.{question};
 use crate::Device;
@@ -23,7 +23,7 @@ pub(crate) fn question_length(device: Device, register: u8) -> usize
 // Writes the bytes that ask the device for the register to the front of the lent buffer.
 pub(crate) fn write_question(device: Device, register: u8, lent: &mut [u8])
     requires { ⌜ (isDevice device ≡ true) × (length (question device register) ≤ length (now lent)) ⌝ }
-    ensures { λ r. ⌜ now (lent .exit) ≡ question device register ++ drop (length (question device register)) (now (lent .entry)) ⌝ }
+    ensures { λ r. ⌜ now (lent .exit) ≡ laidOver (question device register) (now (lent .entry)) ⌝ }
 {
     match device {
         Device::At(address) => {

@@ -4,6 +4,8 @@ ghost use Rattle.bus.specs.RegisterByte.{isWritable, isCarried, changed 
 ghost use Rattle.bus.specs.Tests.{passes as passesTest};
 use crate::Bus;
 
+const BIT_7: u8 = 0x80;
+
 // What is done to a register byte.
 pub(crate) enum Change {
     Keep,
@@ -23,8 +25,8 @@ pub(crate) fn changed(change: Change, register: u8) -> u8
 {
     match change {
         Change::Keep => register,
-        Change::ClearBit7 => register % 128,
-        Change::SetBit7 => register % 128 + 128,
+        Change::ClearBit7 => register % BIT_7,
+        Change::SetBit7 => register % BIT_7 + BIT_7,
     }
 }
 
@@ -63,7 +65,7 @@ fn is_carried(bus: Bus, byte: u8) -> bool
 {
     match bus {
         Bus::I2c => true,
-        Bus::Spi => byte < 128,
+        Bus::Spi => byte < BIT_7,
     }
 }
 

@@ -5,11 +5,12 @@ use lib.Dec.{ltb}
 use lib.ListN.{length, getD, take}
 use lib.Seq.{getD-take, length-take-le}
 use borrow.Author.Tests.{ltb-true, ltb-false}
-use mathlib.Core.Bool.{Bool, true, false, cond}
+use mathlib.Core.Bool.{true, false}
 use mathlib.Core.List.{List, [], _∷_}
-use mathlib.Core.Path.{_≡_, sym, ap}
+use mathlib.Core.Path.{_≡_, sym}
 use Rattle.laws.specs.Tests.{pick}
 use Rattle.paper.specs.Answers.{Answer, given}
+use Rattle.paper.proofs.Answers.{same-number, same-values}
 use Rattle.waiting.specs.Polling.{isReady, firstReady, limit, place, never, polled}
 
 -- ---- the first ready byte of a list
@@ -75,7 +76,7 @@ given-found status allowance at polls =
     (ltb (place status allowance) (limit status allowance))
     (λ e a.
     let h : place status allowance < limit status allowance = ltb-true _ _ e in
-    let v = ap (λ (answer : Answer). answer .values) a in
+    let v = same-values a in
     let p : place status allowance ≡ at = cc in
     let q : place status allowance + 1 ≡ polls = cc in
     record {
@@ -84,16 +85,16 @@ given-found status allowance at polls =
       ready = rw p at (place-is-ready status allowance h);
       first = rw p at (before-place status allowance);
     })
-    (λ e a. absurd (omega (arith, ap (λ (answer : Answer). answer .number) a)))
+    (λ e a. absurd (omega (arith, same-number a)))
 
 pub never-none : (status : List ℕ) (allowance polls : ℕ) → polled status allowance ≡ never polls → NeverReady status allowance polls
 unfolding polled
 never-none status allowance polls =
     pick (λ (answer : Answer). answer ≡ never polls → NeverReady status allowance polls)
     (ltb (place status allowance) (limit status allowance))
-    (λ e a. absurd (omega (arith, ap (λ (answer : Answer). answer .number) a)))
+    (λ e a. absurd (omega (arith, same-number a)))
     (λ e a.
     let h : limit status allowance ≤ place status allowance = ltb-false _ _ e in
-    let v = ap (λ (answer : Answer). answer .values) a in
+    let v = same-values a in
     let q : limit status allowance ≡ polls = cc in
     record { counted = sym q; none = λ k g. before-place status allowance k (omega arith) })

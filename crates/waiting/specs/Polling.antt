@@ -4,7 +4,6 @@ use lib.Dec.{eqb, ltb}
 use lib.ListN.{length, take}
 use mathlib.Core.Bool.{Bool, cond, _&&_}
 use mathlib.Core.List.{List, [], _∷_}
-use mathlib.Core.Path.{_≡_, refl}
 use Rattle.paper.specs.Numbers as no
 use Rattle.paper.specs.Answers.{Answer, given}
 use Rattle.waiting.specs.declared.Polled.{Polled}
@@ -41,11 +40,3 @@ polled status allowance =
 abbrev pub pollAnswer : Polled → Answer
 pollAnswer (Ready at polls) = given (at ∷ polls ∷ [])
 pollAnswer (Never polls) = never polls
-
-pub k11-ready : polled (0x08 ∷ 0x09 ∷ 0x00 ∷ []) 3 ≡ given (2 ∷ 3 ∷ [])
-unfolding isReady firstReady polled
-k11-ready = refl
-
-pub k11-never : polled (0x08 ∷ 0x09 ∷ 0x00 ∷ []) 2 ≡ never 2
-unfolding isReady firstReady polled
-k11-never = refl

@@ -13,6 +13,18 @@ pub struct Figures {
     pub extra: u32,
 }
 
+const MAXIMUM: Figures = Figures {
+    base: 1250,
+    sample: 2300,
+    extra: 575,
+};
+
+const TYPICAL: Figures = Figures {
+    base: 1000,
+    sample: 2000,
+    extra: 500,
+};
+
 // How long a conversion takes, or the number that says why there is no answer.
 pub enum Wait {
     Microseconds(u32),
@@ -30,16 +42,7 @@ pub enum Polled {
 pub fn maximum_wait(temperature: u8, pressure: u8, humidity: u8) -> Wait
     ensures { λ r. ⌜ waitAnswer r ≡ waited maximum temperature pressure humidity ⌝ }
 {
-    conversion::wait(
-        Figures {
-            base: 1250,
-            sample: 2300,
-            extra: 575,
-        },
-        temperature,
-        pressure,
-        humidity,
-    )
+    conversion::wait(MAXIMUM, temperature, pressure, humidity)
 }
 
 // The microseconds that a conversion with these oversampling codes typically takes.
@@ -47,16 +50,7 @@ pub fn maximum_wait(temperature: u8, pressure: u8, humidity: u8) -> Wait
 pub fn typical_wait(temperature: u8, pressure: u8, humidity: u8) -> Wait
     ensures { λ r. ⌜ waitAnswer r ≡ waited typical temperature pressure humidity ⌝ }
 {
-    conversion::wait(
-        Figures {
-            base: 1000,
-            sample: 2000,
-            extra: 500,
-        },
-        temperature,
-        pressure,
-        humidity,
-    )
+    conversion::wait(TYPICAL, temperature, pressure, humidity)
 }
 
 // The place of the first ready status byte and the polls made, place plus one.

@@ -4,14 +4,14 @@ ghost use Prim.Native.Nat.{min};
 ghost use Rattle.waiting.specs.Polling.{isReady};
 
 // Whether bits 3 and 0 are both clear.
-pub fn is_ready(status: u8) -> bool
+pub(crate) fn is_ready(status: u8) -> bool
     ensures { λ r. ⌜ r ≡ isReady status ⌝ }
 {
     (status / 8 % 2 == 0) & (status % 2 == 0)
 }
 
 // The smaller of two limits.
-pub fn smaller(one: usize, other: usize) -> usize
+pub(crate) fn smaller(one: usize, other: usize) -> usize
     ensures { λ r. ⌜ r ≡ min one other ⌝ }
 {
     if one < other { one } else { other }

@@ -1,4 +1,5 @@
 -- The bytes are written where the number is 0, and as many as the definition has.
+use mathlib.Core.List.{[]}
 use mathlib.Core.Path.{sym, _∙_}
 use borrow.Author.Needs.{needs}
 use Rattle.bus.specs.Reading.{question, encodedRead}
@@ -15,12 +16,16 @@ read-number-requires c κs = search needs
 returns : tie.Need-returns
 unfolding encodedRead
 returns c =
-    let a = c .before .before .before .before .args in
-    refusing _ (question (a .device) (a .register)) (a .lent .now) (rw (c .before .before .question-length .ensures) at (c .before .read-number .ensures)) (c .if1 .taken)
+    let measured = c .before .before in
+    let a = measured .before .before .args in
+    let number = rw (measured .question-length .ensures) at (c .before .read-number .ensures) in
+    refusing [] (question (a .device) (a .register)) (a .lent .now) number (c .if1 .taken)
 
 write-question-requires : tie.Need-write-question-requires
 write-question-requires c κs =
-    read-holds _ _ _ _ (rw (c .before .before .before .question-length .ensures) at (sym (c .before .before .read-number .ensures)) ∙ c .before .if1 .left)
+    let passed = c .before in
+    let number = rw (passed .before .before .question-length .ensures) at (sym (passed .before .read-number .ensures)) in
+    read-holds _ _ _ _ (number ∙ passed .if1 .left)
 
 same-length : tie.Need-same-length
 same-length c = search needs
@@ -28,9 +33,12 @@ same-length c = search needs
 returns-2 : tie.Need-returns-2
 unfolding encodedRead
 returns-2 c =
-    let a = c .before .before .before .before .before .before .before .before .args in
-    handing _ (question (a .device) (a .register)) (a .lent .now) (rw (c .before .before .before .before .before .before .question-length .ensures) at (c .before .before .before .before .before .read-number .ensures)) (c .before .before .before .before .if1 .left)
-    (c .before .before .before .before .before .before .question-length .ensures) (c .before .before .write-question .ensures)
+    let passed = c .before .before .before .before in
+    let measured = passed .before .before in
+    let a = measured .before .before .args in
+    let number = rw (measured .question-length .ensures) at (passed .before .read-number .ensures) in
+    handing [] (question (a .device) (a .register)) (a .lent .now) number (passed .if1 .left)
+    (measured .question-length .ensures) (c .before .before .write-question .ensures)
 
 pub encode-read-spec : {M : Type 1} → statement M
 encode-read-spec =

@@ -1,4 +1,5 @@
 -- The message is written where the number is 0, and as long as the definition has it.
+use mathlib.Core.List.{[]}
 use mathlib.Core.Path.{sym, _∙_}
 use borrow.Author.Needs.{needs}
 use Rattle.bus.specs.Writing.{message, encodedWrite}
@@ -16,13 +17,18 @@ encode-number-requires c κs = search needs
 returns : tie.Need-returns
 unfolding encodedWrite
 returns c =
-    let a = c .before .before .before .before .before .args in
-    refusing _ (message (a .device) (a .pairs .now)) (a .lent .now) (rw (c .before .before .message-length .ensures) at (c .before .encode-number .ensures)) (c .if1 .taken)
+    let measured = c .before .before in
+    let a = measured .before .before .before .args in
+    let number = rw (measured .message-length .ensures) at (c .before .encode-number .ensures) in
+    refusing [] (message (a .device) (a .pairs .now)) (a .lent .now) number (c .if1 .taken)
 
 write-message-requires : tie.Need-write-message-requires
 write-message-requires c κs =
-    let a = c .before .before .before .before .before .before .args in
-    let (device, sendable) = encode-holds (a .device) (a .pairs .now) _ _ (rw (c .before .before .before .message-length .ensures) at (sym (c .before .before .encode-number .ensures)) ∙ c .before .if1 .left) in
+    let passed = c .before in
+    let measured = passed .before .before in
+    let a = measured .before .before .before .args in
+    let number = rw (measured .message-length .ensures) at (sym (passed .before .encode-number .ensures)) in
+    let (device, sendable) = encode-holds (a .device) (a .pairs .now) _ _ (number ∙ passed .if1 .left) in
     (device, pairs-even (a .pairs .now) (sendable .pairwise), sendable .roomy)
 
 same-length : tie.Need-same-length
@@ -31,9 +37,12 @@ same-length c = search needs
 returns-2 : tie.Need-returns-2
 unfolding encodedWrite
 returns-2 c =
-    let a = c .before .before .before .before .before .before .before .before .before .args in
-    handing _ (message (a .device) (a .pairs .now)) (a .lent .now) (rw (c .before .before .before .before .before .before .message-length .ensures) at (c .before .before .before .before .before .encode-number .ensures)) (c .before .before .before .before .if1 .left)
-    (c .before .before .before .before .before .before .message-length .ensures) (c .before .before .write-message .ensures)
+    let passed = c .before .before .before .before in
+    let measured = passed .before .before in
+    let a = measured .before .before .before .args in
+    let number = rw (measured .message-length .ensures) at (passed .before .encode-number .ensures) in
+    handing [] (message (a .device) (a .pairs .now)) (a .lent .now) number (passed .if1 .left)
+    (measured .message-length .ensures) (c .before .before .write-message .ensures)
 
 pub encode-write-spec : {M : Type 1} → statement M
 encode-write-spec =

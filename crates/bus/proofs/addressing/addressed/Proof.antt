@@ -1,3 +1,4 @@
+-- Each arm gives what the definition gives for that bus.
 use borrow.Author.Needs.{needs}
 use Rattle.bus.proofs.addressing.addressed.Statement.{statement}
 use Rattle.bus.proofs.addressing.addressed.Tie as tie

@@ -1,3 +1,4 @@
+-- Each arm gives what the definition gives for that device.
 use borrow.Author.Needs.{needs}
 use Rattle.bus.proofs.addressing.is_device.Statement.{statement}
 use Rattle.bus.proofs.addressing.is_device.Tie as tie

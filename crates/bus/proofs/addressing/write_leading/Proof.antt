@@ -1,5 +1,4 @@
 -- On I2C one byte is stored at the front, an address that passed doubled; on SPI nothing is.
-use mathlib.Core.Path.{_≡_}
 use Prim.Native.Nat.{_≤_}
 use native.Mathlib.Omega.{arith}
 use borrow.Author.Needs.{needs}
@@ -14,13 +13,13 @@ enum-known-device c = search needs
 
 mul-lent : tie.Need-mul-lent
 mul-lent c =
-    let start = c .before .before .before in
-    record { fits = omega (arith, at-below (c .before .device .given .1) (start .pre .0)) }
+    let entry = c .before .before .before in
+    record { fits = omega (arith, at-below (c .before .device .given .1) (entry .pre .0)) }
 
 slice-write-lent : tie.Need-slice-write-lent
 slice-write-lent c =
-    let start = c .before .before .before in
-    rw (c .before .device .given .1) at (start .pre .1)
+    let entry = c .before .before .before in
+    rw (c .before .device .given .1) at (entry .pre .1)
 
 enum-told : tie.Need-enum-told
 enum-told c = search needs
@@ -30,9 +29,9 @@ same-length c = search needs
 
 returns : tie.Need-returns
 returns c =
-    let start = c .before .before .before in
-    let h : 1 ≤ length (start .args .lent .now) = rw (c .before .device .given .1) at (start .pre .1) in
-    rw (c .before .device .given .1) (one-stored (start .args .lent .now) _ h)
+    let entry = c .before .before .before in
+    let room : 1 ≤ length (entry .args .lent .now) = rw (c .before .device .given .1) at (entry .pre .1) in
+    rw (c .before .device .given .1) (one-stored (entry .args .lent .now) _ room)
 
 returns-2 : tie.Need-returns-2
 returns-2 c = search needs

@@ -1,5 +1,5 @@
 -- A message is as long as what leads it and its pairs.
-use mathlib.Core.Path.{sym, _∙_}
+use mathlib.Core.Path.{sym}
 use borrow.Author.Needs.{needs}
 use Rattle.bus.proofs.Shapes.{message-length}
 use Rattle.bus.proofs.message.message_length.Statement.{statement}

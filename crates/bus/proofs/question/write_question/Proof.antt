@@ -1,5 +1,4 @@
 -- On I2C three bytes are stored at the front, made of an address that passed; on SPI one.
-use mathlib.Core.Path.{_≡_}
 use Prim.Native.Nat.{_≤_}
 use native.Mathlib.Omega.{arith}
 use borrow.Author.Needs.{needs}
@@ -14,35 +13,33 @@ enum-known-device c = search needs
 
 mul-lent : tie.Need-mul-lent
 mul-lent c =
-    let start = c .before .before .before .before in
-    record { fits = omega (arith, at-below (c .before .device .given .1) (start .pre .0)) }
+    let entry = c .before .before .before .before in
+    record { fits = omega (arith, at-below (c .before .device .given .1) (entry .pre .0)) }
 
 slice-write-lent : tie.Need-slice-write-lent
 slice-write-lent c =
-    let start = c .before .before .before .before in
-    let h : 3 ≤ length (start .args .lent .now) = rw (c .before .device .given .1) at (start .pre .1) in
+    let entry = c .before .before .before .before in
+    let room : 3 ≤ length (entry .args .lent .now) = rw (c .before .device .given .1) at (entry .pre .1) in
     omega arith
 
 slice-write-lent-2 : tie.Need-slice-write-lent-2
 slice-write-lent-2 c =
-    let start = c .before .before .before .before in
-    let h : 3 ≤ length (start .args .lent .now) = rw (c .before .device .given .1) at (start .pre .1) in
+    let entry = c .before .before .before .before in
+    let room : 3 ≤ length (entry .args .lent .now) = rw (c .before .device .given .1) at (entry .pre .1) in
     simp length-set (omega arith)
 
 mul-lent-2 : tie.Need-mul-lent-2
-mul-lent-2 c =
-    let start = c .before .before .before .before in
-    record { fits = omega (arith, at-below (c .before .device .given .1) (start .pre .0)) }
+mul-lent-2 c = mul-lent c
 
 add-lent : tie.Need-add-lent
 add-lent c =
-    let start = c .before .before .before .before in
-    record { fits = omega (arith, at-below (c .before .device .given .1) (start .pre .0)) }
+    let entry = c .before .before .before .before in
+    record { fits = omega (arith, at-below (c .before .device .given .1) (entry .pre .0)) }
 
 slice-write-lent-3 : tie.Need-slice-write-lent-3
 slice-write-lent-3 c =
-    let start = c .before .before .before .before in
-    let h : 3 ≤ length (start .args .lent .now) = rw (c .before .device .given .1) at (start .pre .1) in
+    let entry = c .before .before .before .before in
+    let room : 3 ≤ length (entry .args .lent .now) = rw (c .before .device .given .1) at (entry .pre .1) in
     simp length-set (omega arith)
 
 enum-told : tie.Need-enum-told
@@ -52,27 +49,25 @@ changed-requires : tie.Need-changed-requires
 changed-requires c κs = search needs
 
 slice-write-lent-4 : tie.Need-slice-write-lent-4
-slice-write-lent-4 c =
-    let start = c .before .before .before .before in
-    rw (c .before .enum-told .given .1) at (start .pre .1)
+slice-write-lent-4 c = rw (c .before .enum-told .given .1) at (c .before .before .before .before .pre .1)
 
 same-length : tie.Need-same-length
 same-length c = search needs
 
 returns : tie.Need-returns
 returns c =
-    let start = c .before .before .before .before in
-    let h : 3 ≤ length (start .args .lent .now) = rw (c .before .device .given .1) at (start .pre .1) in
-    rw (c .before .device .given .1) (three-stored (start .args .lent .now) _ _ _ h)
+    let entry = c .before .before .before .before in
+    let room : 3 ≤ length (entry .args .lent .now) = rw (c .before .device .given .1) at (entry .pre .1) in
+    rw (c .before .device .given .1) (three-stored (entry .args .lent .now) _ _ _ room)
 
 same-length-2 : tie.Need-same-length-2
 same-length-2 c = search needs
 
 returns-2 : tie.Need-returns-2
 returns-2 c =
-    let start = c .before .before .before .before in
-    let h : 1 ≤ length (start .args .lent .now) = rw (c .before .enum-told .given .1) at (start .pre .1) in
-    rw (c .before .enum-told .given .1, c .changed .ensures) (one-stored (start .args .lent .now) _ h)
+    let entry = c .before .before .before .before in
+    let room : 1 ≤ length (entry .args .lent .now) = rw (c .before .enum-told .given .1) at (entry .pre .1) in
+    rw (c .before .enum-told .given .1, c .changed .ensures) (one-stored (entry .args .lent .now) _ room)
 
 pub write-question-spec : {M : Type 1} → statement M
 write-question-spec =

@@ -1,3 +1,4 @@
+-- Each arm gives what the definition gives for that change.
 use borrow.Author.Needs.{needs}
 use Rattle.bus.proofs.register.changed.Statement.{statement}
 use Rattle.bus.proofs.register.changed.Tie as tie

@@ -1,3 +1,4 @@
+-- Each arm gives what the definition gives for that bus.
 use borrow.Author.Needs.{needs}
 use Rattle.bus.proofs.register.is_carried.Statement.{statement}
 use Rattle.bus.proofs.register.is_carried.Tie as tie

@@ -1,3 +1,4 @@
+-- Each arm asks what the definition asks for that test.
 use borrow.Author.Needs.{needs}
 use Rattle.bus.proofs.register.passes.Statement.{statement}
 use Rattle.bus.proofs.register.passes.Tie as tie

@@ -27,7 +27,9 @@ body-requires c κs = search needs
 returns-3 : tie.Need-returns-3
 unfolding isShaped
 returns-3 c =
-    rw (le-leb 1 _ (c .before .before .before .before .before .if1 .left), sym (c .before .before .before .is-led .ensures) ∙ not-false _ (c .before .before .if2 .left), ← c .before .body .ensures, ne-eqb _ 0 (c .if3 .taken))
+    let led = c .before .before in
+    let some = le-leb 1 _ (led .before .before .before .if1 .left) in
+    rw (some, sym (led .before .is-led .ensures) ∙ not-false _ (led .if2 .left), ← c .before .body .ensures, ne-eqb _ 0 (c .if3 .taken))
 
 every-requires : tie.Need-every-requires
 every-requires c κs = search needs
@@ -35,7 +37,9 @@ every-requires c κs = search needs
 returns-4 : tie.Need-returns-4
 unfolding isShaped
 returns-4 c =
-    rw (le-leb 1 _ (c .before .before .before .before .before .before .if1 .left), sym (c .before .before .before .before .is-led .ensures) ∙ not-false _ (c .before .before .before .if2 .left), ← c .before .before .body .ensures, eq-eqb _ 0 (c .before .if3 .left))
+    let led = c .before .before .before in
+    let some = le-leb 1 _ (led .before .before .before .if1 .left) in
+    rw (some, sym (led .before .is-led .ensures) ∙ not-false _ (led .if2 .left), ← c .before .before .body .ensures, eq-eqb _ 0 (c .before .if3 .left))
     (c .every .ensures)
 
 pub is-shaped-spec : {M : Type 1} → statement M

@@ -1,0 +1,10 @@
+-- The code asks of the three codes what the definition asks.
+use borrow.Author.Needs.{needs}
+use Rattle.waiting.proofs.conversion.are_codes.Statement.{statement}
+use Rattle.waiting.proofs.conversion.are_codes.Tie as tie
+
+returns : tie.Need-returns
+returns c = search needs
+
+pub are-codes-spec : {M : Type 1} → statement M
+are-codes-spec = tie.close (tie.spec returns)
