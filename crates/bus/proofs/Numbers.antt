@@ -8,12 +8,12 @@ use lib.Dec.{eqb, leb}
 use lib.ListN.{length, take, drop}
 use lib.Seq.{take-append-seam}
 use borrow.Author.Tests.{leb-true, le-leb, eq-eqb, ne-eqb, eqb-true, eqb-false}
-use Rattle.laws.specs.Tests.{pick}
+use Rattle.laws.specs.Choices.{pick}
 use Rattle.paper.specs.Numbers as no
 use Rattle.paper.specs.Answers.{Answer, given, refused}
 use Rattle.bus.specs.declared.Bus.{Bus}
 use Rattle.bus.specs.declared.Device.{Device}
-use Rattle.bus.specs.RegisterByte.{isWritable, isReadable}
+use Rattle.paper.specs.Registers.{isWritable, isReadable}
 use Rattle.bus.specs.Pairs.{arePairs, every}
 use Rattle.bus.specs.Devices.{isDevice}
 use Rattle.bus.specs.Lent.{check, laidOver, handed}

@@ -9,7 +9,8 @@ use borrow.Author.Tests.{le-leb}
 use Rattle.paper.specs.Answers.{given}
 use Rattle.bus.specs.declared.Bus.{Bus}
 use Rattle.bus.specs.declared.Device.{Device}
-use Rattle.bus.specs.RegisterByte.{isWritable, isCarried, sending, receiving}
+use Rattle.paper.specs.Registers.{isWritable}
+use Rattle.bus.specs.RegisterByte.{isCarried, sending, receiving}
 use Rattle.bus.specs.Pairs.{isEven, arePairs, every, withRegisters}
 use Rattle.bus.specs.Devices.{busOf, isDevice, addressed, addresses}
 use Rattle.bus.specs.Lent.{laidOver}

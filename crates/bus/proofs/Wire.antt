@@ -14,7 +14,8 @@ use Rattle.bus.specs.declared.Bus.the-variants.{I2c, Spi}
 use Rattle.bus.specs.declared.Device.{Device}
 use Rattle.bus.specs.declared.Device.the-variants.{At, Selected}
 use Rattle.bus.specs.declared.register.Change.{Change}
-use Rattle.bus.specs.RegisterByte.{isWritable, isCarried, bit7, changed, sending, receiving}
+use Rattle.paper.specs.Registers.{isWritable}
+use Rattle.bus.specs.RegisterByte.{isCarried, bit7, changed, sending, receiving}
 use Rattle.bus.specs.Pairs.{every, withRegisters}
 use Rattle.bus.specs.Devices.{busOf, isDevice, leading, isLed, addressed}
 use Rattle.bus.specs.Writing.{firstOf, body}

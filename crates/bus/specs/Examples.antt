@@ -1,4 +1,4 @@
--- K10, its bytes read back, and the reads of the same devices.
+-- K10's bytes read back, and the reads of the same devices.
 use mathlib.Core.List.{[], _∷_}
 use mathlib.Core.Path.{_≡_, refl}
 use Rattle.paper.specs.Numbers as no
@@ -8,21 +8,10 @@ use Rattle.bus.specs.declared.Bus.the-variants.{I2c, Spi}
 use Rattle.bus.specs.declared.Device.the-variants.{At, Selected}
 use Rattle.bus.specs.Pairs.{every, withRegisters}
 use Rattle.bus.specs.Lent.{handed}
-use Rattle.bus.specs.Writing.{pairsNumber, message, encodeNumber, encodedWrite, isShaped, pairsOf, decodeNumber, decodedWrite}
+use Rattle.bus.specs.Writing.{pairsNumber, isShaped, pairsOf, decodeNumber, decodedWrite}
 use Rattle.bus.specs.Reading.{readNumber, encodedRead}
 
--- F4 with 0x27: EC F4 27 at 0x76, 74 27 on SPI; a byte past the output stays
-pub k10-i2c :
-    encodedWrite (At reg.i2cLow) (reg.ctrlMeas ∷ 0x27 ∷ []) (0 ∷ 0 ∷ 0 ∷ 9 ∷ []) ≡ (given (3 ∷ []), 0xEC ∷ 0xF4 ∷ 0x27 ∷ 9 ∷ [])
-unfolding encodedWrite encodeNumber pairsNumber message every withRegisters handed
-k10-i2c = refl
-
-pub k10-spi :
-    encodedWrite Selected (reg.ctrlMeas ∷ 0x27 ∷ []) (0 ∷ 0 ∷ 9 ∷ []) ≡ (given (2 ∷ []), 0x74 ∷ 0x27 ∷ 9 ∷ [])
-unfolding encodedWrite encodeNumber pairsNumber message every withRegisters handed
-k10-spi = refl
-
--- the same bytes back: the pair, and on I2C the device address
+-- K10's bytes back: the pair, and on I2C the device address
 pub back-i2c :
     decodedWrite I2c (0xEC ∷ 0xF4 ∷ 0x27 ∷ []) (0 ∷ 0 ∷ 9 ∷ []) ≡ (given (reg.i2cLow ∷ 2 ∷ []), reg.ctrlMeas ∷ 0x27 ∷ 9 ∷ [])
 unfolding decodedWrite decodeNumber pairsNumber isShaped pairsOf every withRegisters handed

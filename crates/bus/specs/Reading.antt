@@ -8,7 +8,8 @@ use Rattle.paper.specs.Answers.{Answer}
 use Rattle.bus.specs.declared.Device.{Device}
 use Rattle.bus.specs.declared.Device.the-variants.{At, Selected}
 use Rattle.bus.specs.declared.register.Change.the-variants.{SetBit7}
-use Rattle.bus.specs.RegisterByte.{isReadable, changed}
+use Rattle.paper.specs.Registers.{isReadable}
+use Rattle.bus.specs.RegisterByte.{changed}
 use Rattle.bus.specs.Devices.{isDevice}
 use Rattle.bus.specs.Lent.{check, handed}
 

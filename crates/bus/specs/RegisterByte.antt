@@ -1,21 +1,11 @@
--- The register byte: which registers may be written or read, and what a bus does to the byte.
+-- The register byte: what a bus does to it, and which a write can have there.
 use Prim.Native.Nat.{ℕ, _+_, _%_}
-use lib.Dec.{eqb, leb, ltb}
-use mathlib.Core.Bool.{Bool, true, _||_}
-use Rattle.paper.specs.Registers as reg
+use lib.Dec.{ltb}
+use mathlib.Core.Bool.{Bool, true}
 use Rattle.bus.specs.declared.Bus.{Bus}
 use Rattle.bus.specs.declared.Bus.the-variants.{I2c, Spi}
 use Rattle.bus.specs.declared.register.Change.{Change}
 use Rattle.bus.specs.declared.register.Change.the-variants.{Keep, ClearBit7, SetBit7}
-
--- only F2, F4, F5 and E0 may be written
-abbrev pub isWritable : ℕ → Bool
-isWritable register =
-    eqb register reg.ctrlHum || (eqb register reg.ctrlMeas || (eqb register reg.config || eqb register reg.reset))
-
--- reads take 0x80 to 0xFF, and no byte is larger
-abbrev pub isReadable : ℕ → Bool
-isReadable register = leb reg.firstRegister register
 
 abbrev pub bit7 : ℕ
 bit7 = 0x80

@@ -3,7 +3,8 @@ use Prim.Native.Nat.{ℕ}
 use mathlib.Core.Bool.{Bool}
 use Rattle.bus.specs.declared.register.Test.{Test}
 use Rattle.bus.specs.declared.register.Test.the-variants.{Carried, Writable}
-use Rattle.bus.specs.RegisterByte.{isCarried, isWritable, changed}
+use Rattle.paper.specs.Registers.{isWritable}
+use Rattle.bus.specs.RegisterByte.{isCarried, changed}
 
 abbrev pub passes : Test → ℕ → Bool
 passes (Carried bus) byte = isCarried bus byte

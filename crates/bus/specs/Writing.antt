@@ -12,7 +12,8 @@ use Rattle.bus.specs.declared.Encoded.{Encoded}
 use Rattle.bus.specs.declared.Encoded.the-variants as encoded
 use Rattle.bus.specs.declared.Decoded.{Decoded}
 use Rattle.bus.specs.declared.Decoded.the-variants as decoded
-use Rattle.bus.specs.RegisterByte.{isWritable, isCarried, changed, sending, receiving}
+use Rattle.paper.specs.Registers.{isWritable}
+use Rattle.bus.specs.RegisterByte.{isCarried, changed, sending, receiving}
 use Rattle.bus.specs.Pairs.{isEven, arePairs, every, withRegisters}
 use Rattle.bus.specs.Devices.{busOf, isDevice, leading, leadingLength, isLed, addressed, addresses}
 use Rattle.bus.specs.Lent.{check, handed}

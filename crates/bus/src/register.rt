@@ -1,6 +1,6 @@
-// The register byte: which registers may be written, and what a bus does to the byte.
+// The register byte: what a bus does to it, and which a write can have there.
 ghost use mathlib.Core.Path.{_≡_};
-ghost use Rattle.bus.specs.RegisterByte.{isWritable, isCarried, changed as changedBy, sending as sendingOn, receiving as receivingOn};
+ghost use Rattle.bus.specs.RegisterByte.{isCarried, changed as changedBy, sending as sendingOn, receiving as receivingOn};
 ghost use Rattle.bus.specs.Tests.{passes as passesTest};
 use crate::Bus;
 
@@ -50,15 +50,6 @@ pub(crate) fn receiving(bus: Bus) -> Change
     }
 }
 
-// Whether the register may be written.
-fn is_writable(register: u8) -> bool
-    ensures { λ r. ⌜ r ≡ isWritable register ⌝ }
-{
-    (register == paper::CTRL_HUM)
-        | ((register == paper::CTRL_MEAS)
-            | ((register == paper::CONFIG) | (register == paper::RESET)))
-}
-
 // Whether a write on this bus can have the register byte.
 fn is_carried(bus: Bus, byte: u8) -> bool
     ensures { λ r. ⌜ r ≡ isCarried bus byte ⌝ }
@@ -75,6 +66,6 @@ pub(crate) fn passes(test: Test, byte: u8) -> bool
 {
     match test {
         Test::Carried(bus) => is_carried(bus, byte),
-        Test::Writable(change) => is_writable(changed(change, byte)),
+        Test::Writable(change) => paper::is_writable(changed(change, byte)),
     }
 }

@@ -5,4 +5,4 @@ pub mod Humidity
 pub mod Listed
 pub mod Against
 pub mod Exact
-pub mod Bench
+pub mod Free

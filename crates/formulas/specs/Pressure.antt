@@ -101,14 +101,10 @@ answered (Broke n) = Missing n
 unfoldable pub pressureOf : PressureWords → ℤ → ℕ → PressureAnswer
 pressureOf words fine count = answered (run Bits64 (pressureFormula words fine count))
 
--- the paper's number of an answer, and its value where that is 0
+-- the paper's number of an answer
 abbrev pub numberOf : PressureAnswer → ℕ
 numberOf (Known value) = no.done
 numberOf (Missing n) = n
-
-abbrev pub valueOf : PressureAnswer → ℕ
-valueOf (Known value) = value
-valueOf (Missing n) = 0
 
 -- ---- the lines over whole numbers, with no check
 

@@ -1,10 +1,10 @@
 -- What is handed over in a wider type, with a device, and beside a buffer. Assumes nothing.
 use Prim.Native.Nat.{ℕ, _^_, _≤_}
 use mathlib.Core.Path.{_≡_, refl, ap}
-use mathlib.Core.List.{List, [], _∷_}
+use mathlib.Core.List.{List}
 use native.Mathlib.Omega.{arith}
 use lib.IntN.{ℤ, pos}
-use mir.Syntax.{Width, w16, w32, w64}
+use mir.Syntax.{Width, w16, w32}
 use mir.Val.{Fits, SFits, hbits, bits, toZ, ofZ}
 use mir.Facts.{toZ-pos, toZ-ofZ}
 use Rattle.paper.specs.Numbers as no

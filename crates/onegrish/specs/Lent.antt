@@ -19,6 +19,9 @@ use Rattle.formulas.specs.declared.PressureAnswer.{PressureAnswer}
 use Rattle.formulas.specs.declared.PressureAnswer.the-variants as press
 use Rattle.formulas.specs.declared.HumidityAnswer.{HumidityAnswer}
 use Rattle.formulas.specs.declared.HumidityAnswer.the-variants as damp
+use Rattle.formulas.specs.Temperature as temperature
+use Rattle.formulas.specs.Pressure as pressure
+use Rattle.formulas.specs.Humidity as humidity
 use Rattle.compensation.specs.declared.Reading.{Reading}
 use Rattle.compensation.specs.declared.Answer as comp
 use Rattle.compensation.specs.declared.Answer.the-variants as whole
@@ -50,18 +53,6 @@ wordsInto (blocks.Known words) lent =
 
 -- ---- a reading: the three numbers, and the four values; 9 for fewer places
 
-abbrev pub temperatureNumber : TemperatureAnswer → ℕ
-temperatureNumber (heat.Known value fine) = no.done
-temperatureNumber (heat.Missing n) = n
-
-abbrev pub pressureNumber : PressureAnswer → ℕ
-pressureNumber (press.Known value) = no.done
-pressureNumber (press.Missing n) = n
-
-abbrev pub humidityNumber : HumidityAnswer → ℕ
-humidityNumber (damp.Known value) = no.done
-humidityNumber (damp.Missing n) = n
-
 -- a channel that has no value leaves its places as they were
 abbrev pub withTemperature : TemperatureAnswer → List ℤ → List ℤ
 withTemperature (heat.Known value fine) lent = laid 0 (value ∷ fine ∷ []) lent
@@ -76,17 +67,17 @@ withHumidity (damp.Known value) lent = laid 3 (pos value ∷ []) lent
 withHumidity (damp.Missing n) lent = lent
 
 abbrev pub temperatureInto : TemperatureAnswer → List ℤ → ℕ × List ℤ
-temperatureInto a lent = (temperatureNumber a, withTemperature a lent)
+temperatureInto a lent = (temperature.numberOf a, withTemperature a lent)
 
 abbrev pub pressureInto : PressureAnswer → List ℤ → ℕ × List ℤ
-pressureInto a lent = (pressureNumber a, withPressure a lent)
+pressureInto a lent = (pressure.numberOf a, withPressure a lent)
 
 abbrev pub humidityInto : HumidityAnswer → List ℤ → ℕ × List ℤ
-humidityInto a lent = (humidityNumber a, withHumidity a lent)
+humidityInto a lent = (humidity.numberOf a, withHumidity a lent)
 
 abbrev pub withNumbers : Reading → List ℕ → List ℕ
 withNumbers r lent =
-    laid 0 (temperatureNumber (r .temperature) ∷ pressureNumber (r .pressure) ∷ humidityNumber (r .humidity) ∷ []) lent
+    laid 0 (temperature.numberOf (r .temperature) ∷ pressure.numberOf (r .pressure) ∷ humidity.numberOf (r .humidity) ∷ []) lent
 
 abbrev pub withValues : Reading → List ℤ → List ℤ
 withValues r lent = withHumidity (r .humidity) (withPressure (r .pressure) (withTemperature (r .temperature) lent))

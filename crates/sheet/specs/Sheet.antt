@@ -3,13 +3,11 @@ use Prim.Native.Nat.{ℕ}
 use mathlib.Core.Path.{_≡_}
 use mathlib.Core.List.{List, [], _∷_, _++_, List·Memᴰ}
 use lib.IntN.{ℤ, pos, negsuc}
-use Rattle.paper.specs.Registers as reg
 use Rattle.steps.specs.declared.Signed.the-variants.{Bits64}
 use Rattle.steps.specs.declared.Num.{Num}
 use Rattle.steps.specs.declared.Num.the-variants.{Value, Broke}
 use Rattle.steps.specs.Step.{onValue, onValues}
 use Rattle.steps.specs.Work.{Work, given, share, run, _+_, _<<_, _>>_}
-use Rattle.calibration.specs.declared.TemperatureWords.{TemperatureWords}
 use Rattle.calibration.specs.declared.PressureWords.{PressureWords}
 use Rattle.calibration.specs.declared.HumidityWords.{HumidityWords}
 use Rattle.calibration.specs.declared.Words.{Words}
@@ -25,12 +23,13 @@ use Rattle.waiting.specs.Polling as poll
 use Rattle.bus.specs.declared.Device.the-variants.{At, Selected}
 use Rattle.bus.specs.Pairs.{withRegisters}
 use Rattle.bus.specs.Writing.{message}
+use Rattle.machine.specs.Bench.{k12, k13}
 use Rattle.machine.specs.Control.{effect, heldEffect}
 use Rattle.machine.specs.Data.{stored}
 use Rattle.machine.specs.Events.{showing, keeping, delivering, waitingShown}
-use Rattle.sheet.specs.Row.{Row, agree, each}
+use Rattle.sheet.specs.Row.{Row, each}
 use Rattle.sheet.specs.Figures.{ofTemperature, ofFine, ofPressure, ofHumidity, ofReading, ofAnswer, ofNumbers}
-use Rattle.sheet.specs.Walks.{eightBytes, threeBytes, afterClose}
+use Rattle.sheet.specs.Walks.{afterClose}
 
 abbrev k : ℕ → List ℤ → List ℤ → Row
 k n defined printed = record { name = n; defined = defined; printed = printed }
@@ -115,8 +114,8 @@ sheet =
     ∷ k 10 (ofNumbers (message Selected (0xF4 ∷ 0x27 ∷ []))) (pos 0x74 ∷ pos 0x27 ∷ [])
     ∷ k 11 (ofAnswer (poll.polled (0x08 ∷ 0x09 ∷ 0x00 ∷ []) 3)) (pos 0 ∷ pos 2 ∷ pos 3 ∷ [])
     ∷ k 11 (ofAnswer (poll.polled (0x08 ∷ 0x09 ∷ 0x00 ∷ []) 2)) (pos 17 ∷ pos 2 ∷ [])
-    ∷ k 12 (afterClose eightBytes) (pos 0 ∷ pos 1 ∷ pos 1 ∷ pos 2 ∷ pos 1 ∷ pos 0 ∷ pos 0 ∷ pos 1 ∷ [])
-    ∷ k 13 (afterClose threeBytes) (pos 0 ∷ pos 0 ∷ pos 0 ∷ pos 2 ∷ pos 0 ∷ pos 1 ∷ pos 0 ∷ pos 1 ∷ [])
+    ∷ k 12 (afterClose k12) (pos 0 ∷ pos 1 ∷ pos 1 ∷ pos 2 ∷ pos 1 ∷ pos 0 ∷ pos 0 ∷ pos 1 ∷ [])
+    ∷ k 13 (afterClose k13) (pos 0 ∷ pos 0 ∷ pos 0 ∷ pos 2 ∷ pos 0 ∷ pos 1 ∷ pos 0 ∷ pos 1 ∷ [])
     ∷ k 14 (ofReading (reading chip14 (record { temperature = 519888; pressure = 415148; humidity = 0 }) 0 1 0)) (pos 10 ∷ pos 11 ∷ pos 10 ∷ [])
     ∷ []
 

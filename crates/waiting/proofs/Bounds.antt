@@ -8,13 +8,13 @@ use lib.Dec.{eqb}
 use borrow.Author.Tests.{leb-true, not-false}
 use Rattle.laws.specs.Tests.{both}
 use Rattle.paper.specs.Registers as reg
-use Rattle.waiting.specs.Waiting.{samples, isCode, areCodes}
+use Rattle.waiting.specs.Waiting.{samples}
 
 -- what a test of three codes, called with result r, has shown
-pub codes : (t p h : ℕ) {r : Bool} → r ≡ areCodes t p h → not r ≡ false → (t ≤ reg.lastCode) × (p ≤ reg.lastCode) × (h ≤ reg.lastCode)
+pub codes : (t p h : ℕ) {r : Bool} → r ≡ reg.areCodes t p h → not r ≡ false → (t ≤ reg.lastCode) × (p ≤ reg.lastCode) × (h ≤ reg.lastCode)
 codes t p h {r} e n =
-    let (a, rest) = both (isCode t) (isCode p && isCode h) (sym e ∙ not-false r n) in
-    let (b, d) = both (isCode p) (isCode h) rest in
+    let (a, rest) = both (reg.isCode t) (reg.isCode p && reg.isCode h) (sym e ∙ not-false r n) in
+    let (b, d) = both (reg.isCode p) (reg.isCode h) rest in
     (leb-true t reg.lastCode a, leb-true p reg.lastCode b, leb-true h reg.lastCode d)
 
 either : (b : Bool) {x y n : ℕ} → x ≤ n → y ≤ n → cond b x y ≤ n

@@ -8,7 +8,7 @@ use borrow.Author.Tests.{ltb-true, ltb-false}
 use mathlib.Core.Bool.{true, false}
 use mathlib.Core.List.{List, [], _∷_}
 use mathlib.Core.Path.{_≡_, sym}
-use Rattle.laws.specs.Tests.{pick}
+use Rattle.laws.specs.Choices.{pick}
 use Rattle.paper.specs.Answers.{Answer, given}
 use Rattle.paper.proofs.Answers.{same-number, same-values}
 use Rattle.waiting.specs.Polling.{isReady, firstReady, limit, place, never, polled}

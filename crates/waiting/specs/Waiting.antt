@@ -1,7 +1,7 @@
 -- Waiting: samples by code, and the microseconds that a conversion takes at most and typically.
 use Prim.Native.Nat.{ℕ, _+_, _*_}
-use lib.Dec.{eqb, leb}
-use mathlib.Core.Bool.{Bool, cond, _&&_}
+use lib.Dec.{eqb}
+use mathlib.Core.Bool.{cond}
 use mathlib.Core.List.{[], _∷_}
 use Rattle.paper.specs.Numbers as no
 use Rattle.paper.specs.Registers as reg
@@ -35,16 +35,10 @@ microseconds figures temperature pressure humidity =
     + channelPart (figures .sample) (figures .extra) pressure
     + channelPart (figures .sample) (figures .extra) humidity
 
-abbrev pub isCode : ℕ → Bool
-isCode code = leb code reg.lastCode
-
-abbrev pub areCodes : ℕ → ℕ → ℕ → Bool
-areCodes temperature pressure humidity = isCode temperature && (isCode pressure && isCode humidity)
-
 -- a code above 7 gives 7
 unfoldable pub waited : Figures → ℕ → ℕ → ℕ → Answer
 waited figures temperature pressure humidity =
-    cond (areCodes temperature pressure humidity) (given (microseconds figures temperature pressure humidity ∷ []))
+    cond (reg.areCodes temperature pressure humidity) (given (microseconds figures temperature pressure humidity ∷ []))
     (refused no.outOfRange)
 
 -- the paper's number and values for each case of the enum

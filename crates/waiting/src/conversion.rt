@@ -2,7 +2,7 @@
 ghost use mathlib.Core.Path.{_≡_};
 ghost use Prim.Native.Nat.{_≤_};
 ghost use Rattle.paper.specs.Registers as reg;
-ghost use Rattle.waiting.specs.Waiting.{samples as samplesOf, channelPart, areCodes, waited, waitAnswer};
+ghost use Rattle.waiting.specs.Waiting.{samples as samplesOf, channelPart, waited, waitAnswer};
 use crate::Figures;
 use crate::Wait;
 
@@ -38,21 +38,13 @@ fn channel_part(sample: u32, extra: u32, code: u8) -> u32
     n * sample + extra
 }
 
-// Whether all three codes are of 0 to 7.
-fn are_codes(temperature: u8, pressure: u8, humidity: u8) -> bool
-    ensures { λ r. ⌜ r ≡ areCodes temperature pressure humidity ⌝ }
-{
-    (temperature <= paper::LAST_CODE)
-        & ((pressure <= paper::LAST_CODE) & (humidity <= paper::LAST_CODE))
-}
-
 // How long a conversion takes by the given figures, none of them above 10000.
 // A code above 7 gives 7.
 pub(crate) fn wait(figures: Figures, temperature: u8, pressure: u8, humidity: u8) -> Wait
     requires { ⌜ (figures .base ≤ 10000) × (figures .sample ≤ 10000) × (figures .extra ≤ 10000) ⌝ }
     ensures { λ r. ⌜ waitAnswer r ≡ waited figures temperature pressure humidity ⌝ }
 {
-    if !are_codes(temperature, pressure, humidity) {
+    if !paper::are_codes(temperature, pressure, humidity) {
         return Wait::Refused(paper::OUT_OF_RANGE);
     }
     let of_temperature = channel_part(figures.sample, 0, temperature);

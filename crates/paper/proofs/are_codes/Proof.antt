@@ -1,7 +1,7 @@
 -- The code asks of the three codes what the definition asks.
 use borrow.Author.Needs.{needs}
-use Rattle.waiting.proofs.conversion.are_codes.Statement.{statement}
-use Rattle.waiting.proofs.conversion.are_codes.Tie as tie
+use Rattle.paper.proofs.are_codes.Statement.{statement}
+use Rattle.paper.proofs.are_codes.Tie as tie
 
 returns : tie.Need-returns
 returns c = search needs
