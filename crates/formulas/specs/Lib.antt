@@ -2,3 +2,4 @@
 pub mod Temperature
 pub mod Pressure
 pub mod Humidity
+pub mod Plain
