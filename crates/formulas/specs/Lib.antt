@@ -1,4 +1,4 @@
--- The maker's three formulas and their answers.
+-- The maker's three formulas and their answers, exact; and the ranges in which the plain road is taken.
 pub mod Temperature
 pub mod Pressure
 pub mod Humidity
@@ -6,3 +6,4 @@ pub mod Listed
 pub mod Against
 pub mod Exact
 pub mod Free
+pub mod Plain

@@ -1,18 +1,24 @@
-// The maker's three formulas, every step checked. Each line of the maker's is a function with the line's definition as its promise.
+// The maker's three formulas, by two roads with one promise. On the checked road every step is tested, each line of the
+// maker's a function with the line's definition as its promise. On the plain road the same lines are worked out with no
+// test, where a guard on what comes in proves that no step can leave its type. Real air takes the plain road.
 ghost use mathlib.Core.Path.{_≡_};
 ghost use Rattle.formulas.specs.Temperature.{temperatureOf};
 ghost use Rattle.formulas.specs.Pressure.{pressureOf};
 ghost use Rattle.formulas.specs.Humidity.{humidityOf};
 
+mod checked;
 mod given;
+mod guards;
 mod humidity_lines;
+mod plain_humidity;
+mod plain_pressure;
+mod plain_temperature;
 mod pressure_lines;
 mod temperature_lines;
 
 use calibration::HumidityWords;
 use calibration::PressureWords;
 use calibration::TemperatureWords;
-use steps::Num;
 
 // A temperature in hundredths of a degree with the fine temperature, or the number of what took their place.
 pub enum TemperatureAnswer {
@@ -36,34 +42,28 @@ pub enum HumidityAnswer {
 pub fn temperature(words: TemperatureWords, count: u32) -> TemperatureAnswer
     ensures { λ r. ⌜ r ≡ temperatureOf words count ⌝ }
 {
-    match temperature_lines::fine(words, count) {
-        Num::Broke(n) => TemperatureAnswer::Missing(n),
-        Num::Value(fine) => match temperature_lines::degrees(fine) {
-            Num::Broke(n) => TemperatureAnswer::Missing(n),
-            Num::Value(value) => TemperatureAnswer::Known {
-                value: value as i32,
-                fine: fine as i32,
-            },
-        },
+    if guards::is_near(words.t1, count) {
+        return plain_temperature::temperature(words, count);
     }
+    checked::temperature(words, count)
 }
 
 // The pressure of a count, with the chip's words and the fine temperature.
 pub fn pressure(words: PressureWords, fine: i32, count: u32) -> PressureAnswer
     ensures { λ r. ⌜ r ≡ pressureOf words fine count ⌝ }
 {
-    match pressure_lines::pressure(words, fine, count) {
-        Num::Broke(n) => PressureAnswer::Missing(n),
-        Num::Value(p) => pressure_lines::in_range(p),
+    if guards::is_usual(fine) & (words.p1 <= 45000) & (count <= 1048576) {
+        return plain_pressure::pressure(words, fine, count);
     }
+    checked::anew_pressure(checked::pressure(words, fine, count))
 }
 
 // The humidity of a count, with the chip's words and the fine temperature.
 pub fn humidity(words: HumidityWords, fine: i32, count: u32) -> HumidityAnswer
     ensures { λ r. ⌜ r ≡ humidityOf words fine count ⌝ }
 {
-    match humidity_lines::humidity(words, fine, count) {
-        Num::Broke(n) => HumidityAnswer::Missing(n),
-        Num::Value(v) => humidity_lines::last(v),
+    if guards::is_usual(fine) & guards::are_small(words) & (count <= 65535) {
+        return plain_humidity::humidity(words, fine, count);
     }
+    checked::anew_humidity(checked::humidity(words, fine, count))
 }

@@ -1,29 +1,31 @@
--- `formulas::humidity` meets its contract: where the lines are refused the answer is missing, and where not the last line answers.
-use mathlib.Core.Path.{_≡_, sym, _∙_}
-use mir.Syntax.{w64}
-use mir.Val.{SFits}
+-- `formulas::humidity` meets its contract: where the guard holds the plain road answers, and else the checked one.
+use mathlib.Core.Bool.{_&&_}
+use mathlib.Core.Path.{_∙_}
+use lib.Dec.{leb}
 use mir.Facts.{toZ-ofZ}
 use borrow.Author.Needs.{needs}
-use Rattle.steps.specs.declared.Signed.the-variants.{Bits32}
-use Rattle.steps.specs.Step.{onValue}
-use Rattle.steps.specs.Work.{run}
-use Rattle.formulas.specs.Humidity.{humidityLines, humidityFormula, humidityOf}
+use borrow.Author.Tests.{leb-true}
+use Rattle.formulas.proofs.Ranges.{both-true}
 use Rattle.formulas.proofs.humidity.Statement.{statement}
 use Rattle.formulas.proofs.humidity.Tie as tie
 
-lines-are : (c : tie.After-humidity) → c .humidity .result ≡ run Bits32 (humidityLines (c .before .args .words) (c .before .args .fine) (c .before .args .count))
-lines-are c = rw (toZ-ofZ (c .before .fits .fine)) at (c .humidity .ensures)
+humidity-requires : tie.Need-humidity-requires
+humidity-requires c κs =
+    let w = c .before in
+    let u = w .before in
+    let s = u .before in
+    let r = u .is-usual .result in
+    let h = both-true (r && w .are-small .result) (leb (s .args .count) 65535) (c .if1 .taken) in
+    let k = both-true r (w .are-small .result) (h .0) in
+    (u .is-usual .ensures (k .0), (w .are-small .ensures (k .1), leb-true (s .args .count) 65535 (h .1)))
 
 returns : tie.Need-returns
-unfolding run onValue humidityFormula humidityOf
-returns c = rw (sym (lines-are (c .before .before .before)) ∙ c .before .n .given .1)
+returns c = let s = c .before .before .before .before in rw (toZ-ofZ (s .fits .fine)) at (c .humidity .ensures)
 
 returns-2 : tie.Need-returns-2
-unfolding run onValue humidityFormula humidityOf
 returns-2 c =
-    let x = c .before .before in
-    let h : SFits w64 (x .v .given .0 .0) = search needs in
-    rw (sym (lines-are (x .before .before)) ∙ x .v .given .1) (rw (toZ-ofZ h) at (c .last .ensures))
+    let s = c .before .before .before .before .before in
+    c .anew-humidity .ensures ∙ (rw (toZ-ofZ (s .fits .fine)) at (c .before .humidity2 .ensures))
 
 pub humidity-spec : {M : Type 1} → statement M
-humidity-spec = tie.close (tie.spec (λ c κs. tt) (λ c. search needs) (λ c. search needs) (λ c κs. tt) returns returns-2)
+humidity-spec = tie.close (tie.spec (λ c κs. search needs) (λ c κs. search needs) humidity-requires returns (λ c κs. search needs) (λ c κs. search needs) returns-2)

@@ -1,29 +1,30 @@
--- `formulas::pressure` meets its contract: where the lines are refused the answer is missing, and where not the last line answers.
-use mathlib.Core.Path.{_≡_, sym, _∙_}
-use mir.Syntax.{w64}
-use mir.Val.{SFits}
+-- `formulas::pressure` meets its contract: where the guard holds the plain road answers, and else the checked one.
+use mathlib.Core.Bool.{_&&_}
+use mathlib.Core.Path.{_∙_}
+use lib.Dec.{leb}
 use mir.Facts.{toZ-ofZ}
 use borrow.Author.Needs.{needs}
-use Rattle.steps.specs.declared.Signed.the-variants.{Bits64}
-use Rattle.steps.specs.Step.{onValue}
-use Rattle.steps.specs.Work.{run}
-use Rattle.formulas.specs.Pressure.{pressureLines, pressureFormula, pressureOf}
+use borrow.Author.Tests.{leb-true}
+use Rattle.formulas.proofs.Ranges.{both-true}
 use Rattle.formulas.proofs.pressure.Statement.{statement}
 use Rattle.formulas.proofs.pressure.Tie as tie
 
-lines-are : (c : tie.After-pressure) → c .pressure .result ≡ run Bits64 (pressureLines (c .before .args .words) (c .before .args .fine) (c .before .args .count))
-lines-are c = rw (toZ-ofZ (c .before .fits .fine)) at (c .pressure .ensures)
+pressure-requires : tie.Need-pressure-requires
+pressure-requires c κs =
+    let u = c .before .before in
+    let s = u .before in
+    let r = u .is-usual .result in
+    let h = both-true (r && leb (s .args .words .p1) 45000) (leb (s .args .count) 1048576) (c .if1 .taken) in
+    let k = both-true r (leb (s .args .words .p1) 45000) (h .0) in
+    (u .is-usual .ensures (k .0), (leb-true (s .args .words .p1) 45000 (k .1), leb-true (s .args .count) 1048576 (h .1)))
 
 returns : tie.Need-returns
-unfolding run onValue pressureFormula pressureOf
-returns c = rw (sym (lines-are (c .before .before .before)) ∙ c .before .n .given .1)
+returns c = let s = c .before .before .before .before in rw (toZ-ofZ (s .fits .fine)) at (c .pressure .ensures)
 
 returns-2 : tie.Need-returns-2
-unfolding run onValue pressureFormula pressureOf
 returns-2 c =
-    let x = c .before .before in
-    let h : SFits w64 (x .p .given .0 .0) = search needs in
-    rw (sym (lines-are (x .before .before)) ∙ x .p .given .1) (rw (toZ-ofZ h) at (c .in-range .ensures))
+    let s = c .before .before .before .before .before in
+    c .anew-pressure .ensures ∙ (rw (toZ-ofZ (s .fits .fine)) at (c .before .pressure2 .ensures))
 
 pub pressure-spec : {M : Type 1} → statement M
-pressure-spec = tie.close (tie.spec (λ c κs. tt) (λ c. search needs) (λ c. search needs) (λ c κs. tt) returns returns-2)
+pressure-spec = tie.close (tie.spec (λ c κs. search needs) pressure-requires returns (λ c κs. search needs) (λ c κs. search needs) returns-2)

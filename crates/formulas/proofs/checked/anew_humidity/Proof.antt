@@ -1,0 +1,14 @@
+-- `formulas::checked::anew_humidity` meets its contract: both cases are made again as they were.
+use mathlib.Core.Path.{sym}
+use borrow.Author.Needs.{needs}
+use Rattle.formulas.proofs.checked.anew_humidity.Statement.{statement}
+use Rattle.formulas.proofs.checked.anew_humidity.Tie as tie
+
+returns : tie.Need-returns
+returns c = sym (c .before .a .given .1)
+
+returns-2 : tie.Need-returns-2
+returns-2 c = sym (c .before .a2 .given .1)
+
+pub anew-humidity-spec : {M : Type 1} → statement M
+anew-humidity-spec = tie.close (tie.spec (λ c. search needs) (λ c. search needs) returns returns-2)
