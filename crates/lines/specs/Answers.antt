@@ -10,11 +10,11 @@ use Rattle.commands.specs.Commands.{asked}
 use Rattle.machine.specs.declared.Machine.{Machine}
 use Rattle.waiting.specs.Waiting.{maximum, typical}
 use Rattle.bus.specs.declared.Bus.the-variants.{I2c, Spi}
-use Rattle.lines.specs.Phrases.{refused, ended}
-use Rattle.lines.specs.Chip as chip
-use Rattle.lines.specs.Times as times
-use Rattle.lines.specs.Messages as messages
-use Rattle.lines.specs.Happenings as happenings
+use Rattle.phrases.specs.Phrases.{refused, ended}
+use Rattle.readings.specs.Chip as chip
+use Rattle.readings.specs.Times as times
+use Rattle.messages.specs.Messages as messages
+use Rattle.happenings.specs.Happenings as happenings
 
 -- each command, but for the newline
 abbrev pub ran : Command → List ℕ → Machine → Page → Machine × Page

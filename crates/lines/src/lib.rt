@@ -3,20 +3,10 @@ ghost use mathlib.Core.Path.{_≡_};
 ghost use Rattle.lines.specs.Answers as answers;
 use commands::Asked;
 use commands::Command;
+use happenings::Answered;
 use machine::Machine;
-
-mod phrases; // pieces of an answer
-mod words; // numbers and bytes among the words
-mod chip; // cal, comp
-mod times; // wait, poll
-mod messages; // i2c, spi
-mod happenings; // fresh, the eight events, ledger
-
-// The machine after a line, and the page's next place.
-pub struct Answered {
-    pub machine: Machine,
-    pub at: usize,
-}
+use readings::chip;
+use readings::times;
 
 // Answers a line: writes the answer and a newline on the page from a place on, and gives the machine afterwards.
 // An empty line is passed over.

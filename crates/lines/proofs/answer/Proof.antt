@@ -9,4 +9,4 @@ unfolding answered
 returns c = rw (c .before .before .answer-asked .ensures, c .before .before .before .before .read .ensures)
 
 pub answer-spec : {M : Type 1} → statement M
-answer-spec = tie.close (tie.spec (λ c κs. search needs) (λ c κs. search needs) (λ c. search needs) returns)
+answer-spec = tie.close (tie.spec (λ c κs. tt) (λ c κs. tt) (λ c. search needs) returns)

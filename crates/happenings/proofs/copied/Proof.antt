@@ -1,0 +1,12 @@
+-- What the event gives, written down.
+use Rattle.happenings.specs.Happenings.{copied}
+use borrow.Author.Needs.{needs}
+use Rattle.happenings.proofs.copied.Statement.{statement}
+use Rattle.happenings.proofs.copied.Tie as tie
+
+returns : tie.Need-returns
+unfolding copied
+returns c = rw (c .before .before .tell-outcome .ensures, c .before .before .before .before .copied .ensures)
+
+pub copied-spec : {M : Type 1} → statement M
+copied-spec = tie.close (tie.spec (λ c κs. tt) (λ c κs. tt) (λ c. search needs) returns)

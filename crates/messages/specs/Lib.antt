@@ -1,0 +1,2 @@
+-- The answers of i2c and spi.
+pub mod Messages

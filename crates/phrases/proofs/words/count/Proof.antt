@@ -1,0 +1,13 @@
+-- The remainder.
+use Rattle.phrases.specs.Words.{count}
+use mathlib.Core.Path.{refl}
+use borrow.Author.Needs.{needs}
+use Rattle.phrases.proofs.words.count.Statement.{statement}
+use Rattle.phrases.proofs.words.count.Tie as tie
+
+returns : tie.Need-returns
+unfolding count
+returns c = refl
+
+pub count-spec : {M : Type 1} → statement M
+count-spec = tie.close (tie.spec (λ c. search needs) returns)

@@ -1,0 +1,11 @@
+-- The word at the place, read.
+use Rattle.phrases.specs.Words.{decimal}
+use Rattle.phrases.proofs.words.decimal.Statement.{statement}
+use Rattle.phrases.proofs.words.decimal.Tie as tie
+
+returns : tie.Need-returns
+unfolding decimal
+returns c = rw (c .read-decimal .ensures, c .before .word .ensures)
+
+pub decimal-spec : {M : Type 1} → statement M
+decimal-spec = tie.close (tie.spec (λ c κs. tt) (λ c κs. tt) returns)
