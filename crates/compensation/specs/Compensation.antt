@@ -1,10 +1,9 @@
 -- Compensation: both blocks, the eight bytes 0xF7 to 0xFE, and three oversampling codes. Codes, channels and counts come as temperature, pressure, humidity.
 use Prim.Native.Nat.{ℕ}
-use mathlib.Core.Bool.{Bool, cond, _&&_}
+use mathlib.Core.Bool.{cond}
 use mathlib.Core.List.{List}
-use lib.Dec.{leb, eqb}
+use lib.Dec.{eqb}
 use lib.ListN.{length}
-use lib.IntN.{ℤ}
 use Rattle.paper.specs.Numbers as no
 use Rattle.paper.specs.Registers as reg
 use Rattle.calibration.specs.declared.TemperatureWords.{TemperatureWords}
@@ -60,15 +59,9 @@ reading words counts t p h =
 
 -- ---- length is checked first (2), then codes (7)
 
-abbrev pub isCode : ℕ → Bool
-isCode code = leb code reg.lastCode
-
-abbrev pub areCodes : ℕ → ℕ → ℕ → Bool
-areCodes t p h = isCode t && (isCode p && isCode h)
-
 unfoldable pub compensatedWords : Words → List ℕ → ℕ → ℕ → ℕ → Answer
 compensatedWords words bytes t p h =
-    cond (areCodes t p h)
+    cond (reg.areCodes t p h)
     (Done (reading words (countsOf bytes) t p h))
     (Refused no.outOfRange)
 

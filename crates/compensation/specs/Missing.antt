@@ -54,8 +54,3 @@ module _ (words : Words) (counts : Counts) (t p h : ℕ) {n : ℕ} (missing : re
 
   pub humidity-without : (h ≡ 0 → ⊥) → reading words counts t p h .humidity ≡ damp.Missing no.noTemperature
   humidity-without on = rw (ne-eqb h 0 on, missing)
-
--- ---- K14: codes 0, 1, 0 give 10, 11, 10
-
-pub k14 : (words : Words) (counts : Counts) → reading words counts 0 1 0 ≡ record { temperature = heat.Missing 10; pressure = press.Missing 11; humidity = damp.Missing 10 }
-k14 words counts = refl

@@ -11,20 +11,6 @@ use formulas::HumidityAnswer;
 use formulas::PressureAnswer;
 use formulas::TemperatureAnswer;
 
-// Whether a code is one of 0 to 7.
-fn is_code(code: u8) -> bool
-    ensures { λ r. ⌜ r ≡ comp.isCode code ⌝ }
-{
-    code <= paper::LAST_CODE
-}
-
-// Whether all three codes are.
-pub fn are_codes(t: u8, p: u8, h: u8) -> bool
-    ensures { λ r. ⌜ r ≡ comp.areCodes t p h ⌝ }
-{
-    is_code(t) && (is_code(p) && is_code(h))
-}
-
 // The temperature's channel: skipped by code 0, and else the formula's answer.
 fn temperature(t: u8, words: TemperatureWords, count: u32) -> TemperatureAnswer
     ensures { λ r. ⌜ r ≡ comp.temperatureChannel t words count ⌝ }

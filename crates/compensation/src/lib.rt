@@ -63,7 +63,7 @@ fn sixteen_bits(high: u8, low: u8) -> u32
 pub fn compensate_words(words: Words, bytes: [u8; 8], t: u8, p: u8, h: u8) -> Answer
     ensures { λ r. ⌜ r ≡ comp.compensatedWords words bytes t p h ⌝ }
 {
-    if channels::are_codes(t, p, h) {
+    if paper::are_codes(t, p, h) {
         Answer::Done(channels::read(words, count(bytes), t, p, h))
     } else {
         Answer::Refused(paper::OUT_OF_RANGE)

@@ -17,8 +17,8 @@ pub fn answer(number: u8, m: Machine) -> Outcome
 }
 
 // The answer that has no number, no codes and no delivery to tell.
-pub fn close_empty(number: u8, m: Machine) -> Closing
-    ensures { λ r. ⌜ r ≡ ev.emptyClosing number m ⌝ }
+pub fn close_empty(answer: u8, m: Machine) -> Closing
+    ensures { λ r. ⌜ r ≡ ev.emptyClosing answer m ⌝ }
 {
     let codes = Codes {
         temperature: 0,
@@ -26,7 +26,7 @@ pub fn close_empty(number: u8, m: Machine) -> Closing
         humidity: 0,
     };
     Closing {
-        answer: number,
+        answer: answer,
         whole: false,
         number: 0,
         codes: codes,

@@ -1,7 +1,5 @@
 // How a conversion finishes and where it goes, and how the next one begins from standby.
 ghost use mathlib.Core.Path.{_≡_};
-ghost use Rattle.machine.specs.Counts as counts;
-ghost use Rattle.machine.specs.Control as control;
 ghost use Rattle.machine.specs.Events as ev;
 use crate::control;
 use crate::fields;
@@ -34,15 +32,14 @@ fn rest(d: Device) -> Device
     }
 }
 
-// Whether the held F4 would begin one conversion too many.
-pub fn is_barred(m: Machine) -> bool
-    ensures { λ r. ⌜ r ≡ counts.isBarred (control.heldBegins (m .device .held) (ev.rested (m .device) .phase)) (m .ledger) ⌝ }
+// Whether the held F4 begins a conversion once the device rests.
+pub fn held_will_begin(d: Device) -> bool
+    ensures { λ r. ⌜ r ≡ ev.heldWillBegin d ⌝ }
 {
-    let device = m.device;
-    let held = device.held;
-    let rested = rest(device);
+    let held = d.held;
+    let rested = rest(d);
     let phase = rested.phase;
-    ledger::is_barred(control::held_begins(held, phase), m.ledger)
+    control::held_begins(held, phase)
 }
 
 // A conversion is shown; the one that it replaces is overwritten, if unread.

@@ -78,7 +78,10 @@ pub fn write(m: Machine, register: u8, value: u8) -> Outcome
     if !paper::is_writable(register) {
         return answer(paper::ADDRESS_NOT_ALLOWED, m);
     }
-    writing::write_register(m, register, value)
+    if register == paper::RESET {
+        return writing::write_reset(m, value);
+    }
+    writing::write_control(m, register, value)
 }
 
 // The running conversion finishes with its three counts.
@@ -92,7 +95,7 @@ pub fn finish(m: Machine, temperature: u32, pressure: u32, humidity: u32) -> Out
     if !data::is_in_range(temperature, pressure, humidity) {
         return answer(paper::OUT_OF_RANGE, m);
     }
-    if finishing::is_barred(m) {
+    if ledger::is_barred(finishing::held_will_begin(device), m.ledger) {
         return answer(paper::ALL_BEGUN, m);
     }
     let bytes = data::store(device, temperature, pressure, humidity);

@@ -13,7 +13,7 @@ use machine::Machine;
 use machine::Outcome;
 
 // E0: the reset word resets, any other byte is ignored.
-fn write_reset(m: Machine, value: u8) -> Outcome
+pub fn write_reset(m: Machine, value: u8) -> Outcome
     ensures { λ r. ⌜ r ≡ ev.writtenReset m value ⌝ }
 {
     if value == paper::RESET_WORD {
@@ -96,7 +96,7 @@ fn may_write(d: Device) -> bool
 }
 
 // F2, F5 and F4, once the calibration is copied.
-fn write_control(m: Machine, register: u8, value: u8) -> Outcome
+pub fn write_control(m: Machine, register: u8, value: u8) -> Outcome
     ensures { λ r. ⌜ r ≡ ev.writtenControl m register value ⌝ }
 {
     if !may_write(m.device) {
@@ -109,15 +109,4 @@ fn write_control(m: Machine, register: u8, value: u8) -> Outcome
         return write_f5(m, value);
     }
     write_f4(m, value)
-}
-
-// A writable register is written.
-pub fn write_register(m: Machine, register: u8, value: u8) -> Outcome
-    ensures { λ r. ⌜ r ≡ ev.writtenRegister m register value ⌝ }
-{
-    if register == paper::RESET {
-        write_reset(m, value)
-    } else {
-        write_control(m, register, value)
-    }
 }

@@ -73,14 +73,10 @@ answered (Broke n) = Missing n
 unfoldable pub humidityOf : HumidityWords → ℤ → ℕ → HumidityAnswer
 humidityOf words fine count = answered (run Bits32 (humidityFormula words fine count))
 
--- the paper's number of an answer, and its value where that is 0
+-- the paper's number of an answer
 abbrev pub numberOf : HumidityAnswer → ℕ
 numberOf (Known value) = no.done
 numberOf (Missing n) = n
-
-abbrev pub valueOf : HumidityAnswer → ℕ
-valueOf (Known value) = value
-valueOf (Missing n) = 0
 
 -- ---- the lines over whole numbers, with no check
 

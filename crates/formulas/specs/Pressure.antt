@@ -32,7 +32,7 @@ offsetLines words difference =
 
 -- var1 = ((var1 * var1 * P3) >> 8) + ((var1 * P2) << 12);
 -- var1 = (((1 << 47) + var1)) * P1 >> 33;
--- if (var1 == 0) return 0;
+-- if (var1 == 0) return 0;  (here the number for a divisor zero in the place of the 0)
 unfoldable pub divisorLines : PressureWords → ℤ → Work
 divisorLines words difference =
     let P1 = num (words .p1) in
@@ -101,14 +101,10 @@ answered (Broke n) = Missing n
 unfoldable pub pressureOf : PressureWords → ℤ → ℕ → PressureAnswer
 pressureOf words fine count = answered (run Bits64 (pressureFormula words fine count))
 
--- the paper's number of an answer, and its value where that is 0
+-- the paper's number of an answer
 abbrev pub numberOf : PressureAnswer → ℕ
 numberOf (Known value) = no.done
 numberOf (Missing n) = n
-
-abbrev pub valueOf : PressureAnswer → ℕ
-valueOf (Known value) = value
-valueOf (Missing n) = 0
 
 -- ---- the lines over whole numbers, with no check
 

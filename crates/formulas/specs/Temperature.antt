@@ -53,18 +53,10 @@ fromFine (Broke n) = Missing n
 unfoldable pub temperatureOf : TemperatureWords → ℕ → TemperatureAnswer
 temperatureOf words count = fromFine (run Bits32 (fineLines words count))
 
--- the paper's number of an answer, and its values where that is 0
+-- the paper's number of an answer
 abbrev pub numberOf : TemperatureAnswer → ℕ
 numberOf (Known value fine) = no.done
 numberOf (Missing n) = n
-
-abbrev pub valueOf : TemperatureAnswer → ℤ
-valueOf (Known value fine) = value
-valueOf (Missing n) = pos 0
-
-abbrev pub fineOf : TemperatureAnswer → ℤ
-fineOf (Known value fine) = fine
-fineOf (Missing n) = pos 0
 
 -- ---- the lines over whole numbers, with no check
 

@@ -18,12 +18,14 @@ use steps::shift_left;
 use steps::shift_right;
 use steps::subtract;
 
+// The fine temperature less 76800: the maker's first v.
 fn difference(fine: i32) -> Num
     ensures { λ r. ⌜ r ≡ run Bits32 (differenceLine fine) ⌝ }
 {
     subtract(Signed::Bits32, signed32(fine), Num::Value(76800))
 }
 
+// The first factor of the maker's product: the count less what H4 and H5 take off.
 fn level(words: HumidityWords, count: u32, v: i64) -> Num
     ensures { λ r. ⌜ r ≡ run Bits32 (levelFactor words count v) ⌝ }
 {
@@ -36,6 +38,7 @@ fn level(words: HumidityWords, count: u32, v: i64) -> Num
     shift_right(w, add(w, warm, Num::Value(16384)), 15)
 }
 
+// In the second factor, what H6 and H3 make of v. The 32768 is added before the product.
 fn bend(words: HumidityWords, v: i64) -> Num
     ensures { λ r. ⌜ r ≡ run Bits32 (bendFactor words v) ⌝ }
 {
@@ -48,6 +51,7 @@ fn bend(words: HumidityWords, v: i64) -> Num
     shift_right(w, product, 10)
 }
 
+// The second factor of the maker's product.
 fn gain(words: HumidityWords, v: i64) -> Num
     ensures { λ r. ⌜ r ≡ run Bits32 (gainFactor words v) ⌝ }
 {
@@ -57,12 +61,14 @@ fn gain(words: HumidityWords, v: i64) -> Num
     shift_right(w, add(w, multiply(w, sum, h2), Num::Value(8192)), 14)
 }
 
+// The maker's second v: the two factors' product.
 fn product(words: HumidityWords, count: u32, v: i64) -> Num
     ensures { λ r. ⌜ r ≡ run Bits32 (productLine words count v) ⌝ }
 {
     multiply(Signed::Bits32, level(words, count, v), gain(words, v))
 }
 
+// The maker's third v: less its own square's share by H1.
 fn correction(words: HumidityWords, v: i64) -> Num
     ensures { λ r. ⌜ r ≡ run Bits32 (correctionLine words v) ⌝ }
 {
@@ -88,7 +94,7 @@ pub fn humidity(words: HumidityWords, fine: i32, count: u32) -> Num
     correction(words, y)
 }
 
-// A number brought within 0 and the largest humidity, before its last shift.
+// A number brought within 0 and 419430400, which is 100 %RH before the last shift.
 fn clamp(v: i64) -> u32
     ensures { λ r. ⌜ pos r ≡ clamped v ⌝ }
 {
@@ -101,6 +107,7 @@ fn clamp(v: i64) -> u32
     v as u32
 }
 
+// The humidity: what the clamp leaves, shifted by 12.
 pub fn last(v: i64) -> HumidityAnswer
     ensures { λ r. ⌜ r ≡ answered (run Bits32 (lastLine v)) ⌝ }
 {

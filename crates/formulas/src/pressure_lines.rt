@@ -20,12 +20,14 @@ use steps::shift_left;
 use steps::shift_right;
 use steps::subtract;
 
+// The maker's first var1: the fine temperature less 128000.
 fn difference(fine: i32) -> Num
     ensures { λ r. ⌜ r ≡ run Bits64 (differenceLine fine) ⌝ }
 {
     subtract(Signed::Bits64, signed32(fine), Num::Value(128000))
 }
 
+// The maker's var2, in its three lines, from the first var1.
 fn offset(words: PressureWords, difference: i64) -> Num
     ensures { λ r. ⌜ r ≡ run Bits64 (offsetLines words difference) ⌝ }
 {
@@ -39,6 +41,7 @@ fn offset(words: PressureWords, difference: i64) -> Num
     add(w, add(w, square, line), shift_left(w, p4, 35))
 }
 
+// The maker's second var1, in its two lines, from the first. It divides, so it is refused where it is zero.
 fn divisor(words: PressureWords, difference: i64) -> Num
     ensures { λ r. ⌜ r ≡ run Bits64 (divisorLines words difference) ⌝ }
 {
@@ -53,6 +56,7 @@ fn divisor(words: PressureWords, difference: i64) -> Num
     refuse_zero(shift_right(w, multiply(w, sum, p1), 33))
 }
 
+// The maker's p, in its two lines: what the count leaves of 1048576, less var2, over var1.
 fn quotient(count: u32, var2: i64, var1: i64) -> Num
     ensures { λ r. ⌜ r ≡ run Bits64 (quotientLines count var2 var1) ⌝ }
 {
@@ -62,6 +66,7 @@ fn quotient(count: u32, var2: i64, var1: i64) -> Num
     divide(w, multiply(w, above, Num::Value(3125)), Num::Value(var1))
 }
 
+// The maker's third var1, with P9.
 fn curve(words: PressureWords, p: i64) -> Num
     ensures { λ r. ⌜ r ≡ run Bits64 (curveLine words p) ⌝ }
 {
@@ -71,6 +76,7 @@ fn curve(words: PressureWords, p: i64) -> Num
     shift_right(w, multiply(w, multiply(w, p9, coarse), coarse), 25)
 }
 
+// The maker's second var2, with P8.
 fn slope(words: PressureWords, p: i64) -> Num
     ensures { λ r. ⌜ r ≡ run Bits64 (slopeLine words p) ⌝ }
 {
@@ -78,6 +84,7 @@ fn slope(words: PressureWords, p: i64) -> Num
     shift_right(w, multiply(w, signed16(words.p8), Num::Value(p)), 19)
 }
 
+// The maker's last line: P7 times 16 is added after the shift by 8.
 fn last(words: PressureWords, p: i64, var1: i64, var2: i64) -> Num
     ensures { λ r. ⌜ r ≡ run Bits64 (lastLine words p var1 var2) ⌝ }
 {
@@ -125,7 +132,7 @@ pub fn pressure(words: PressureWords, fine: i32, count: u32) -> Num
     refine(words, p)
 }
 
-// A pressure that an unsigned word of 32 bits holds.
+// The pressure, where it lies from 0 to 4294967295.
 pub fn in_range(p: i64) -> PressureAnswer
     ensures { λ r. ⌜ r ≡ answered (passed (isPressure p) no.pressureOutside p) ⌝ }
 {

@@ -14,6 +14,7 @@ use steps::shift_left;
 use steps::shift_right;
 use steps::subtract;
 
+// The maker's var1: the count's distance from T1, times T2.
 fn slope(words: TemperatureWords, count: u32) -> Num
     ensures { λ r. ⌜ r ≡ run Bits32 (slopeLine words count) ⌝ }
 {
@@ -25,6 +26,7 @@ fn slope(words: TemperatureWords, count: u32) -> Num
     shift_right(w, multiply(w, difference, t2), 11)
 }
 
+// The maker's var2: the square of that distance, times T3.
 fn curve(words: TemperatureWords, count: u32) -> Num
     ensures { λ r. ⌜ r ≡ run Bits32 (curveLine words count) ⌝ }
 {
@@ -37,14 +39,14 @@ fn curve(words: TemperatureWords, count: u32) -> Num
     shift_right(w, multiply(w, square, t3), 14)
 }
 
-// The fine temperature.
+// The fine temperature: the sum of the two.
 pub fn fine(words: TemperatureWords, count: u32) -> Num
     ensures { λ r. ⌜ r ≡ run Bits32 (fineLines words count) ⌝ }
 {
     add(Signed::Bits32, slope(words, count), curve(words, count))
 }
 
-// The temperature of a fine temperature.
+// The temperature in hundredths of a degree, from the fine temperature.
 pub fn degrees(fine: i64) -> Num
     ensures { λ r. ⌜ r ≡ run Bits32 (degreesLine fine) ⌝ }
 {

@@ -14,4 +14,6 @@ write-spec =
     (λ c κs. tt)
     (λ c. search cases)
     (λ c κs. tt)
+    (λ c. search cases)
+    (λ c κs. tt)
     (λ c. search cases))

@@ -14,7 +14,21 @@ h6-fits s = search needs
 
 returns : tie.Need-returns
 unfolding run bendFactor added multiplied shiftedRight
-returns c = let s = c .before .before .before .before .before .before .before .before .before .before .before in cc (toZ-ofZ (h6-fits s), toZ-ofZ (s .fits .v))
+returns c =
+    let s = c .before .before .before .before .before .before .before .before .before .before .before in
+    rw (
+      c .shift-right3 .ensures,
+      c .before .multiply3 .ensures,
+      c .before .before .add .ensures,
+      c .before .before .before .shift-right2 .ensures,
+      c .before .before .before .before .multiply2 .ensures,
+      c .before .before .before .before .before .shift-right .ensures,
+      c .before .before .before .before .before .before .multiply .ensures,
+      c .before .before .before .before .before .before .before .signed8 .ensures,
+      c .before .before .before .before .before .before .before .before .before .unsigned .ensures,
+      toZ-ofZ (h6-fits s),
+      toZ-ofZ (s .fits .v),
+    )
 
 pub bend-spec : {M : Type 1} → statement M
 bend-spec =

@@ -1,7 +1,7 @@
 -- `formulas::humidity_lines::clamp` meets its contract: the two tests are the clamp's ends.
-use mathlib.Core.Path.{_≡_, ap, sym}
+use mathlib.Core.Path.{_≡_, ap}
 use native.Mathlib.Omega.{arith}
-use Prim.Native.Nat.{_≤_, min}
+use Prim.Native.Nat.{_≤_}
 use lib.IntN.{pos, natAbs}
 use mir.Facts.{toZ-ofZ}
 use Rattle.formulas.proofs.Laws.{below, above, between}

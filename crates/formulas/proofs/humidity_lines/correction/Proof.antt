@@ -9,7 +9,18 @@ use Rattle.formulas.proofs.humidity_lines.correction.Tie as tie
 
 returns : tie.Need-returns
 unfolding run correctionLine subtracted multiplied shiftedRight
-returns c = let s = c .before .before .before .before .before .before .before .before in cc (toZ-ofZ (s .fits .v))
+returns c =
+    let s = c .before .before .before .before .before .before .before .before in
+    rw (
+      c .subtract .ensures,
+      c .before .shift-right3 .ensures,
+      c .before .before .multiply2 .ensures,
+      c .before .before .before .shift-right2 .ensures,
+      c .before .before .before .before .multiply .ensures,
+      c .before .before .before .before .before .shift-right .ensures,
+      c .before .before .before .before .before .before .unsigned .ensures,
+      toZ-ofZ (s .fits .v),
+    )
 
 pub correction-spec : {M : Type 1} → statement M
 correction-spec =

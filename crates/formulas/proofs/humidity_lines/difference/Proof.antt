@@ -8,7 +8,13 @@ use Rattle.formulas.proofs.humidity_lines.difference.Tie as tie
 
 returns : tie.Need-returns
 unfolding run differenceLine subtracted
-returns c = let s = c .before .before in cc (toZ-ofZ (s .fits .fine))
+returns c =
+    let s = c .before .before in
+    rw (
+      c .subtract .ensures,
+      c .before .signed32 .ensures,
+      toZ-ofZ (s .fits .fine),
+    )
 
 pub difference-spec : {M : Type 1} → statement M
 difference-spec =

@@ -14,7 +14,18 @@ h2-fits s = search needs
 
 returns : tie.Need-returns
 unfolding run gainFactor added multiplied shiftedRight
-returns c = let s = c .before .before .before .before .before .before .before in cc (toZ-ofZ (h2-fits s), toZ-ofZ (s .fits .v))
+returns c =
+    let s = c .before .before .before .before .before .before .before in
+    rw (
+      c .shift-right .ensures,
+      c .before .add2 .ensures,
+      c .before .before .multiply .ensures,
+      c .before .before .before .add .ensures,
+      c .before .before .before .before .bend .ensures,
+      c .before .before .before .before .before .signed16 .ensures,
+      toZ-ofZ (h2-fits s),
+      toZ-ofZ (s .fits .v),
+    )
 
 pub gain-spec : {M : Type 1} → statement M
 gain-spec =

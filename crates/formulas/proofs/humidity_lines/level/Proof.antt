@@ -17,7 +17,23 @@ h5-fits s = search needs
 
 returns : tie.Need-returns
 unfolding run levelFactor added subtracted multiplied shiftedLeft shiftedRight
-returns c = let s = c .before .before .before .before .before .before .before .before .before .before .before .before in cc (toZ-ofZ (h4-fits s), toZ-ofZ (h5-fits s), toZ-ofZ (s .fits .v))
+returns c =
+    let s = c .before .before .before .before .before .before .before .before .before .before .before .before in
+    rw (
+      c .shift-right .ensures,
+      c .before .add .ensures,
+      c .before .before .subtract2 .ensures,
+      c .before .before .before .multiply .ensures,
+      c .before .before .before .before .subtract .ensures,
+      c .before .before .before .before .before .shift-left2 .ensures,
+      c .before .before .before .before .before .before .shift-left .ensures,
+      c .before .before .before .before .before .before .before .signed162 .ensures,
+      c .before .before .before .before .before .before .before .before .before .signed16 .ensures,
+      c .before .before .before .before .before .before .before .before .before .before .before .unsigned .ensures,
+      toZ-ofZ (h4-fits s),
+      toZ-ofZ (h5-fits s),
+      toZ-ofZ (s .fits .v),
+    )
 
 pub level-spec : {M : Type 1} → statement M
 level-spec =

@@ -8,15 +8,24 @@ use mir.Val.{SFits, toZ, ofZ}
 use mir.Facts.{toZ-ofZ}
 use borrow.Author.Needs.{needs}
 use Rattle.steps.specs.declared.Signed.the-variants.{Bits64}
-use Rattle.steps.specs.declared.Num.the-variants.{Value}
+use Rattle.steps.specs.declared.Num.{Num}
+use Rattle.steps.specs.declared.Num.the-variants.{Value, Broke}
 use Rattle.steps.specs.Step.{onValue, onValues}
 use Rattle.steps.specs.Work.{run}
 use Rattle.formulas.specs.Pressure.{differenceLine, offsetLines, divisorLines, quotientLines, refinedLines, pressureLines, pressureFormula, pressureOf}
 use Rattle.formulas.specs.Plain.{Gives, Dividing, dividendLine, divisionLine}
-use Rattle.formulas.proofs.Laws.{on-given, onward}
 use Rattle.formulas.proofs.Bounds.{local, fit, back, onto, widened, word, literal, minus-within, far-is}
 use Rattle.formulas.proofs.plain_pressure.pressure.Statement.{statement}
 use Rattle.formulas.proofs.plain_pressure.pressure.Tie as tie
+
+on-given : (x : ℤ) (f : ℤ → Num) → onValue (Value x) f ≡ f x
+unfolding onValue
+on-given x f = refl
+
+onward : (a : Num) (f g : ℤ → Num) → onValue (onValue a f) g ≡ onValue a (λ x. onValue (f x) g)
+unfolding onValue
+onward (Value x) f g = refl
+onward (Broke n) f g = refl
 
 -- the quotient's line goes on from its dividend
 parted : (count : ℕ) (var2 var1 : ℤ) → run Bits64 (quotientLines count var2 var1) ≡ onValue (run Bits64 (dividendLine count var2)) (λ x. run Bits64 (divisionLine x var1))

@@ -14,7 +14,17 @@ p9-fits s = search needs
 
 returns : tie.Need-returns
 unfolding run curveLine multiplied shiftedRight
-returns c = let s = c .before .before .before .before .before .before in cc (toZ-ofZ (p9-fits s), toZ-ofZ (s .fits .p))
+returns c =
+    let s = c .before .before .before .before .before .before in
+    rw (
+      c .shift-right2 .ensures,
+      c .before .multiply2 .ensures,
+      c .before .before .multiply .ensures,
+      c .before .before .before .shift-right .ensures,
+      c .before .before .before .before .signed16 .ensures,
+      toZ-ofZ (p9-fits s),
+      toZ-ofZ (s .fits .p),
+    )
 
 pub curve-spec : {M : Type 1} → statement M
 curve-spec =

@@ -14,7 +14,20 @@ p7-fits s = search needs
 
 returns : tie.Need-returns
 unfolding run lastLine added shiftedLeft shiftedRight
-returns c = let s = c .before .before .before .before .before .before .before in cc (toZ-ofZ (p7-fits s), toZ-ofZ (s .fits .p), toZ-ofZ (s .fits .var1), toZ-ofZ (s .fits .var2))
+returns c =
+    let s = c .before .before .before .before .before .before .before in
+    rw (
+      c .add3 .ensures,
+      c .before .shift-left .ensures,
+      c .before .before .shift-right .ensures,
+      c .before .before .before .add2 .ensures,
+      c .before .before .before .before .add .ensures,
+      c .before .before .before .before .before .signed16 .ensures,
+      toZ-ofZ (p7-fits s),
+      toZ-ofZ (s .fits .p),
+      toZ-ofZ (s .fits .var1),
+      toZ-ofZ (s .fits .var2),
+    )
 
 pub last-spec : {M : Type 1} → statement M
 last-spec =

@@ -1,12 +1,14 @@
 -- `formulas::pressure_lines::offset` meets its contract: its calls are the lines' steps, each line's variable in its place.
+use mathlib.Core.Path.{refl, _∙_}
 use mir.Syntax.{w16}
 use mir.Val.{SFits}
 use mir.Facts.{toZ-ofZ}
 use borrow.Author.Needs.{needs}
-use Rattle.steps.specs.Step.{onValues, added, multiplied, shiftedLeft}
+use Rattle.steps.specs.declared.Signed.the-variants.{Bits64}
+use Rattle.steps.specs.Step.{onValue, onValues, added, multiplied, shiftedLeft}
 use Rattle.steps.specs.Work.{run}
 use Rattle.formulas.specs.Pressure.{offsetLines}
-use Rattle.formulas.proofs.Laws.{on-given, onward}
+use Rattle.formulas.proofs.Laws.{in-place}
 use Rattle.formulas.proofs.pressure_lines.offset.Statement.{statement}
 use Rattle.formulas.proofs.pressure_lines.offset.Tie as tie
 
@@ -20,13 +22,16 @@ p6-fits : (s : tie.Start) → SFits w16 (s .args .words .p6)
 p6-fits s = search needs
 
 returns : tie.Need-returns
-unfolding run offsetLines onValues added multiplied shiftedLeft
+unfolding run offsetLines onValue onValues added multiplied shiftedLeft
 returns c =
     let s = c .before .before .before .before .before .before .before .before .before .before .before .before .before in
-    rw (
-      c .add2 .ensures,
+    rw (c .add2 .ensures, c .before .before .add .ensures)
+    (in-place
+    (λ a. added Bits64 (added Bits64 a (c .before .before .before .shift-left .result)) (c .before .shift-left2 .result))
+    (λ n. refl)
+    (c .before .before .before .before .before .multiply2 .result)
+    ∙ rw (
       c .before .shift-left2 .ensures,
-      c .before .before .add .ensures,
       c .before .before .before .shift-left .ensures,
       c .before .before .before .before .multiply3 .ensures,
       c .before .before .before .before .before .multiply2 .ensures,
@@ -38,8 +43,7 @@ returns c =
       toZ-ofZ (p4-fits s),
       toZ-ofZ (p5-fits s),
       toZ-ofZ (p6-fits s),
-    )
-    (simp (on-given, onward))
+    ))
 
 pub offset-spec : {M : Type 1} → statement M
 offset-spec =

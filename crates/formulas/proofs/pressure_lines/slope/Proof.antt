@@ -14,7 +14,15 @@ p8-fits s = search needs
 
 returns : tie.Need-returns
 unfolding run slopeLine multiplied shiftedRight
-returns c = let s = c .before .before .before .before in cc (toZ-ofZ (p8-fits s), toZ-ofZ (s .fits .p))
+returns c =
+    let s = c .before .before .before .before in
+    rw (
+      c .shift-right .ensures,
+      c .before .multiply .ensures,
+      c .before .before .signed16 .ensures,
+      toZ-ofZ (p8-fits s),
+      toZ-ofZ (s .fits .p),
+    )
 
 pub slope-spec : {M : Type 1} → statement M
 slope-spec =

@@ -14,7 +14,20 @@ t3-fits s = search needs
 
 returns : tie.Need-returns
 unfolding run curveLine subtracted multiplied shiftedRight
-returns c = let s = c .before .before .before .before .before .before .before .before .before .before .before in cc (toZ-ofZ (t3-fits s))
+returns c =
+    let s = c .before .before .before .before .before .before .before .before .before .before .before in
+    rw (
+      c .shift-right3 .ensures,
+      c .before .multiply2 .ensures,
+      c .before .before .shift-right2 .ensures,
+      c .before .before .before .multiply .ensures,
+      c .before .before .before .before .subtract .ensures,
+      c .before .before .before .before .before .shift-right .ensures,
+      c .before .before .before .before .before .before .signed16 .ensures,
+      c .before .before .before .before .before .before .before .before .unsigned2 .ensures,
+      c .before .before .before .before .before .before .before .before .before .before .unsigned .ensures,
+      toZ-ofZ (t3-fits s),
+    )
 
 pub curve-spec : {M : Type 1} → statement M
 curve-spec =

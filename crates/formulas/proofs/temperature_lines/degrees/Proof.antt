@@ -8,7 +8,14 @@ use Rattle.formulas.proofs.temperature_lines.degrees.Tie as tie
 
 returns : tie.Need-returns
 unfolding run degreesLine added multiplied shiftedRight
-returns c = let s = c .before .before .before in cc (toZ-ofZ (s .fits .fine))
+returns c =
+    let s = c .before .before .before in
+    rw (
+      c .shift-right .ensures,
+      c .before .add .ensures,
+      c .before .before .multiply .ensures,
+      toZ-ofZ (s .fits .fine),
+    )
 
 pub degrees-spec : {M : Type 1} → statement M
 degrees-spec =

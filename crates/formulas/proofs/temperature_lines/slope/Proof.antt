@@ -14,7 +14,19 @@ t2-fits s = search needs
 
 returns : tie.Need-returns
 unfolding run slopeLine subtracted multiplied shiftedLeft shiftedRight
-returns c = let s = c .before .before .before .before .before .before .before .before .before .before in cc (toZ-ofZ (t2-fits s))
+returns c =
+    let s = c .before .before .before .before .before .before .before .before .before .before in
+    rw (
+      c .shift-right2 .ensures,
+      c .before .multiply .ensures,
+      c .before .before .subtract .ensures,
+      c .before .before .before .shift-left .ensures,
+      c .before .before .before .before .shift-right .ensures,
+      c .before .before .before .before .before .signed16 .ensures,
+      c .before .before .before .before .before .before .before .unsigned2 .ensures,
+      c .before .before .before .before .before .before .before .before .before .unsigned .ensures,
+      toZ-ofZ (t2-fits s),
+    )
 
 pub slope-spec : {M : Type 1} → statement M
 slope-spec =

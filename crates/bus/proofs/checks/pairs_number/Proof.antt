@@ -1,0 +1,32 @@
+-- The code checks in the order of the definition.
+use borrow.Author.Needs.{needs}
+use Rattle.laws.specs.Cases.{cases}
+use Rattle.bus.specs.Writing.{pairsNumber}
+use Rattle.bus.proofs.checks.pairs_number.Statement.{statement}
+use Rattle.bus.proofs.checks.pairs_number.Tie as tie
+
+are-pairs-requires : tie.Need-are-pairs-requires
+are-pairs-requires c κs = search needs
+
+returns : tie.Need-returns
+unfolding pairsNumber
+returns c = search cases
+
+every-requires : tie.Need-every-requires
+every-requires c κs = search needs
+
+returns-2 : tie.Need-returns-2
+unfolding pairsNumber
+returns-2 c = search cases
+
+returns-3 : tie.Need-returns-3
+unfolding pairsNumber
+returns-3 c = search cases
+
+returns-4 : tie.Need-returns-4
+unfolding pairsNumber
+returns-4 c = search cases
+
+pub pairs-number-spec : {M : Type 1} → statement M
+pairs-number-spec =
+    tie.close (tie.spec are-pairs-requires returns every-requires returns-2 returns-3 returns-4)

@@ -1,0 +1,43 @@
+-- The cases of the definition.
+use borrow.Author.Needs.{needs}
+use Rattle.commands.proofs.all_three.Statement.{statement}
+use Rattle.commands.proofs.all_three.Tie as tie
+
+both-requires : tie.Need-both-requires
+both-requires c κs = search needs
+
+enum-known-reason : tie.Need-enum-known-reason
+enum-known-reason c = search needs
+
+enum-known-a : tie.Need-enum-known-a
+enum-known-a c = search needs
+
+enum-known-third : tie.Need-enum-known-third
+enum-known-third c = search needs
+
+enum-known-third-2 : tie.Need-enum-known-third-2
+enum-known-third-2 c = search needs
+
+returns : tie.Need-returns
+returns c = rw (← c .before .before .before .both .ensures, c .before .reason .given .1)
+
+returns-2 : tie.Need-returns-2
+returns-2 c =
+    rw (← c .before .before .before .before .before .before .both .ensures, c .before .before .before .before .a .given .1, c .before .third .given .1)
+
+returns-3 : tie.Need-returns-3
+returns-3 c =
+    rw (← c .before .before .before .before .before .before .both .ensures, c .before .before .before .before .a .given .1, c .before .third2 .given .1)
+
+pub all-three-spec : {M : Type 1} → statement M
+all-three-spec =
+    tie.close
+    (tie.spec
+    both-requires
+    enum-known-reason
+    enum-known-a
+    enum-known-third
+    enum-known-third-2
+    returns
+    returns-2
+    returns-3)

@@ -1,0 +1,38 @@
+-- Lines read, by the definitions: each reason, and that the words decide in their order.
+use Prim.Native.Nat.{ℕ}
+use mathlib.Core.List.{List}
+use mathlib.Core.Path.{_≡_, refl}
+use Rattle.figures.specs.Page.{letters}
+use Rattle.figures.specs.declared.Reason.the-variants.{UnknownWord, WrongNumberOfWords}
+use Rattle.commands.specs.declared.Asked.the-variants.{Nothing, Command, Refused}
+use Rattle.commands.specs.declared.Command.the-variants as the
+use Rattle.commands.specs.Words as words
+use Rattle.commands.specs.Commands as known
+
+pub wait : known.asked (letters "wait max 5 5 5") ≡ Command the.WaitMaximum
+unfolding known.asked known.command known.verb known.wait words.count words.word words.afterSpaces words.upToSpace words.fromSpace words.is words.agrees
+wait = refl
+
+pub second-missing : known.asked (letters "wait") ≡ Refused WrongNumberOfWords
+unfolding known.asked known.command known.verb known.wait words.count words.word words.afterSpaces words.upToSpace words.fromSpace words.is words.agrees
+second-missing = refl
+
+pub second-unknown : known.asked (letters "wait  max 5 5 5") ≡ Refused UnknownWord
+unfolding known.asked known.command known.verb known.wait words.count words.word words.afterSpaces words.upToSpace words.fromSpace words.is words.agrees
+second-unknown = refl
+
+pub trailing-space : known.asked (letters "copied ") ≡ Refused WrongNumberOfWords
+unfolding known.asked known.command known.verb known.message known.event words.count words.word words.afterSpaces words.upToSpace words.fromSpace words.is words.agrees
+trailing-space = refl
+
+pub spaces-alone : known.asked (letters "  ") ≡ Refused UnknownWord
+unfolding known.asked known.command known.verb known.message known.event known.change known.burst words.count words.word words.afterSpaces words.upToSpace words.fromSpace words.is words.agrees
+spaces-alone = refl
+
+pub empty : known.asked (letters "") ≡ Nothing
+unfolding known.asked
+empty = refl
+
+pub third-word : words.word 2 (letters "poll 2 080900") ≡ letters "080900"
+unfolding words.word words.afterSpaces words.upToSpace words.fromSpace
+third-word = refl

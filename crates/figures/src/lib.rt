@@ -1,0 +1,152 @@
+// Numbers as the words of a line: read from their digits, and written as digits on a page.
+ghost use mathlib.Core.Path.{_≡_};
+ghost use lib.ListN.{take};
+ghost use Rattle.figures.specs.Page.{_▹_, writtenByte};
+ghost use Rattle.figures.specs.Digits as spelt;
+ghost use Rattle.figures.specs.Reading as reading;
+
+mod digits;
+
+// Why a line is not answered.
+pub enum Reason {
+    UnknownWord,
+    WrongNumberOfWords,
+    NotANumber,
+    OddHex,
+    TooLong,
+}
+
+// The number that a word stands for, or why it stands for none.
+pub enum Number {
+    Value(usize),
+    Refused(Reason),
+}
+
+// The largest decimal.
+pub const LARGEST: usize = 4294967295;
+
+// Writes one byte at a place of the page, and gives the next place.
+// Past the page's end nothing is written, and the place stays.
+pub fn write_byte(byte: u8, out: &mut [u8], at: usize) -> usize
+    ensures { λ r. ⌜ (now (out .exit), r) ≡ writtenByte byte (now (out .entry), at) ⌝ }
+{
+    if at < out.len() {
+        out[at] = byte;
+        return at + 1;
+    }
+    at
+}
+
+// Writes a text from a place of the page on, and gives the next place.
+// What would stand past the page's end is not written.
+pub fn write_text(text: &[u8], out: &mut [u8], at: usize) -> usize
+    ensures { λ r. ⌜ (now (out .exit), r) ≡ (now (out .entry), at) ▹ now (text .entry) ⌝ }
+{
+    let mut next = at;
+    let mut i = 0;
+    while i < text.len() {
+        next = write_byte(text[i], out, next);
+        i += 1;
+    }
+    next
+}
+
+// Writes a number in decimal.
+pub fn write_decimal(n: u64, out: &mut [u8], at: usize) -> usize
+    ensures { λ r. ⌜ (now (out .exit), r) ≡ (now (out .entry), at) ▹ spelt.decimal n ⌝ }
+{
+    digits::spell(n, digits::MORE_DIGITS, out, at)
+}
+
+// Writes a signed number in decimal, with a minus where it is negative.
+pub fn write_signed(z: i32, out: &mut [u8], at: usize) -> usize
+    ensures { λ r. ⌜ (now (out .exit), r) ≡ (now (out .entry), at) ▹ spelt.signed z ⌝ }
+{
+    if z < 0 {
+        let next = write_byte(b'-', out, at);
+        return write_decimal(digits::magnitude(digits::widen(z)), out, next);
+    }
+    write_decimal(digits::magnitude(digits::widen(z)), out, at)
+}
+
+// Writes a byte as two hex digits, in upper case.
+pub fn write_pair(byte: u8, out: &mut [u8], at: usize) -> usize
+    ensures { λ r. ⌜ (now (out .exit), r) ≡ (now (out .entry), at) ▹ spelt.pair byte ⌝ }
+{
+    let next = write_byte(digits::hex(byte / 16), out, at);
+    write_byte(digits::hex(byte % 16), out, next)
+}
+
+// Writes bytes as hex pairs run together, and a dash for none.
+pub fn write_bytes(bytes: &[u8], out: &mut [u8], at: usize) -> usize
+    ensures { λ r. ⌜ (now (out .exit), r) ≡ (now (out .entry), at) ▹ spelt.shown (now (bytes .entry)) ⌝ }
+{
+    if bytes.len() == 0 {
+        return write_byte(b'-', out, at);
+    }
+    let mut next = at;
+    let mut i = 0;
+    while i < bytes.len() {
+        next = write_pair(bytes[i], out, next);
+        i += 1;
+    }
+    next
+}
+
+// The number that a word of decimal digits stands for.
+// A word of none, a character that is no digit, and a number above the largest are refused.
+pub fn read_decimal(word: &[u8]) -> Number
+    ensures { λ r. ⌜ r ≡ reading.decimal (now (word .entry)) ⌝ }
+{
+    if word.len() == 0 {
+        return Number::Refused(Reason::NotANumber);
+    }
+    let mut value = 0;
+    let mut i = 0;
+    while i < word.len() {
+        let digit = digits::value(word[i]);
+        if 9 < digit {
+            return Number::Refused(Reason::NotANumber);
+        }
+        value = value * 10 + digit as usize;
+        if LARGEST < value {
+            return Number::Refused(Reason::NotANumber);
+        }
+        i += 1;
+    }
+    Number::Value(value)
+}
+
+// The byte that a word of exactly two hex digits stands for.
+pub fn read_pair(word: &[u8]) -> Number
+    ensures { λ r. ⌜ r ≡ reading.pair (now (word .entry)) ⌝ }
+{
+    if word.len() != 2 {
+        return Number::Refused(Reason::NotANumber);
+    }
+    if !digits::are_hex(word) {
+        return Number::Refused(Reason::NotANumber);
+    }
+    Number::Value(digits::byte(word[0], word[1]) as usize)
+}
+
+// Lays the bytes that a word of hex pairs stands for at the front of what is lent, and gives how many there are.
+// A dash stands for none. A character that is no hex digit is refused, then an odd number of digits, then more than what is lent holds.
+pub fn read_bytes(word: &[u8], lent: &mut [u8]) -> Number
+    ensures { λ r. ⌜ (r, now (lent .exit)) ≡ reading.bytes (now (word .entry)) (now (lent .entry)) ⌝ }
+{
+    if digits::is_dash(word) {
+        return Number::Value(0);
+    }
+    if word.len() == 0 {
+        return Number::Refused(Reason::NotANumber);
+    }
+    digits::lay(word, lent)
+}
+
+// The first n bytes, or all where there are fewer.
+pub fn front(bytes: &[u8], n: usize) -> &[u8]
+    ensures { λ r. ⌜ now r ≡ take n (now (bytes .entry)) ⌝ }
+{
+    if n <= bytes.len() { &bytes[..n] } else { bytes }
+}

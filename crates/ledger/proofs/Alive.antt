@@ -1,0 +1,132 @@
+-- A dead machine does not pass: from every state that a list of events leads to, the next conversion is run truly.
+use Prim.Native.Nat.{ℕ, _+_, _%_, _≤_, _<_}
+use mathlib.Core.Path.{_≡_, refl, sym, ap, _∙_, subst}
+use mathlib.Core.Bool.{Bool, true, false}
+use mathlib.Core.List.{List, [], _∷_, _++_}
+use native.Mathlib.Omega.{arith}
+use Rattle.paper.specs.Registers as reg
+use Rattle.machine.specs.declared.Held.the-variants.{Nothing}
+use Rattle.machine.specs.declared.Burst.the-variants.{Closed}
+use Rattle.machine.specs.declared.Codes.{Codes}
+use Rattle.machine.specs.declared.Ledger.{Ledger}
+use Rattle.machine.specs.declared.Closing.{Closing}
+use Rattle.machine.specs.declared.Machine.{Machine}
+use Rattle.machine.specs.Fields.{withBurst}
+use Rattle.machine.specs.State.{fresh, noConversion, runs, isOpen, isThere, isUnread}
+use Rattle.machine.specs.Counts.{begunIf, deliveredIf, overwrittenIf}
+use Rattle.machine.specs.Data.{stored}
+use Rattle.machine.specs.Events.{showing, delivering, waitingShown, ended, wholeClosing, awake, closed}
+use Rattle.machine.specs.Event.{Event, Power, Copied, next, after}
+use Rattle.ledger.specs.Told.{history}
+use Rattle.ledger.specs.Alive.{Turn, Fits, codesOf, byWrite, byWake, measured, Begins, Delivers, MayBeginByWrite, WriteRunsTruly, MayBeginByWake, WakeRunsTruly}
+use Rattle.ledger.proofs.Book.{nonzero-pos}
+use Rattle.ledger.proofs.Right.{none-waits}
+use Rattle.ledger.proofs.Kept.{kept}
+use Rattle.ledger.proofs.Theorems.{counts-are-true}
+use Rattle.ledger.proofs.Tests.{passed}
+use Rattle.ledger.proofs.Turn.{begun, controlledBy, mode-runs, write-begins, wake-begins, read-from, closes}
+
+-- ---- the close of a turn
+
+-- with none waiting only the burst ends
+ends : (m : Machine) → m .waiting ≡ noConversion → ended m ≡ withBurst Closed m
+unfolding waitingShown
+ends m w = ap (withBurst Closed) (passed (isThere (m .waiting)) _ m (ap isThere w))
+
+-- the mark of the shown conversion, and the counts
+pub closed-after : (m : Machine) (t : Turn) → m .waiting ≡ noConversion → wholeClosing (read-from m t) .machine ≡ withBurst Closed (delivering (read-from m t))
+unfolding showing delivering
+closed-after m t w = ends (delivering (read-from m t)) w
+
+pub ledger-after : (m : Machine) (t : Turn) → m .waiting ≡ noConversion → 1 ≤ m .ledger .begun
+    → wholeClosing (read-from m t) .machine .ledger ≡ deliveredIf true (overwrittenIf (isUnread (m .shown)) (m .ledger))
+unfolding showing delivering
+ledger-after m t w some =
+    let new : isUnread (read-from m t .shown) ≡ true = rw (nonzero-pos (m .ledger .begun) some) in
+    ap (λ (k : Machine). k .ledger) (closed-after m t w) ∙ ap (λ (b : Bool). deliveredIf b (overwrittenIf (isUnread (m .shown)) (m .ledger))) new
+
+one-more : (b : Bool) (l : Ledger) → l .delivered < reg.mostBegun
+    → (deliveredIf true (overwrittenIf b l) .begun ≡ l .begun) × (deliveredIf true (overwrittenIf b l) .delivered ≡ l .delivered + 1)
+one-more true l p = (refl, omega arith)
+one-more false l p = (refl, omega arith)
+
+-- of a running machine
+pub delivers : (m : Machine) (t : Turn) → Fits t → runs (m .device .phase) ≡ true → m .device .held ≡ Nothing → m .burst ≡ Closed → m .waiting ≡ noConversion
+    → 1 ≤ m .ledger .begun → m .ledger .delivered < reg.mostBegun
+    → let x = closed (after m (measured t)) (t .lent) in Delivers (m .ledger .begun) (m .ledger .delivered + 1) (m .device .codes) t (x .0) (x .1)
+unfolding showing stored
+delivers m t f u n b w some space =
+    let l = ledger-after m t w some in
+    let o = one-more (isUnread (m .shown)) (m .ledger) space in
+    subst (λ (x : Closing × List ℕ). Delivers (m .ledger .begun) (m .ledger .delivered + 1) (m .device .codes) t (x .0) (x .1)) (sym (closes m t f u n b)) (record {
+      answer-is = refl;
+      whole-is = refl;
+      number-is = refl;
+      codes-are = refl;
+      bytes-are = refl;
+      not-before = refl;
+      begun-is = ap (λ (l : Ledger). l .begun) l ∙ o .0;
+      delivered-is = ap (λ (l : Ledger). l .delivered) l ∙ o .1;
+    })
+
+-- ---- after every list of events
+
+module _ (es : List Event) where
+  abbrev now : Machine
+  now = after fresh es
+
+  -- where no burst is open none waits
+  none-waiting : now .burst ≡ Closed → now .waiting ≡ noConversion
+  none-waiting b = let k = kept es in k .tidy .none-waits (k .right .waits-is ∙ none-waits (history es) (sym (k .right .open-is) ∙ ap isOpen b))
+
+  none-held : runs (now .device .phase) ≡ false → now .device .held ≡ Nothing
+  none-held = kept es .tidy .none-held
+
+  begun-more : now .ledger .begun < reg.mostBegun → begunIf true (now .ledger) .begun ≡ now .ledger .begun + 1
+  begun-more l = omega arith
+
+  -- a machine r that has just begun one more
+  turns : (t : Turn) (r : Machine) (c : Codes) → Fits t → runs (r .device .phase) ≡ true → r .device .held ≡ Nothing → r .burst ≡ Closed → r .waiting ≡ noConversion
+      → r .device .codes ≡ c → r .ledger ≡ begunIf true (now .ledger) → now .ledger .begun < reg.mostBegun
+      → let x = closed (after r (measured t)) (t .lent) in Delivers (now .ledger .begun + 1) (now .ledger .delivered + 1) c t (x .0) (x .1)
+  turns t r c f u n b w q e l =
+      let sum = counts-are-true es .sum-is in
+      let begun-is : r .ledger .begun ≡ now .ledger .begun + 1 = ap (λ (l : Ledger). l .begun) e ∙ begun-more l in
+      let delivered-is : r .ledger .delivered ≡ now .ledger .delivered = ap (λ (l : Ledger). l .delivered) e in
+      rw (← begun-is, ← delivered-is, ← q) (delivers r t f u n b w (omega arith) (omega arith))
+
+  -- forced or normal, by a write
+  pub write-runs-truly : (t : Turn) → Fits t → MayBeginByWrite now t → WriteRunsTruly now t
+  write-runs-truly t f a =
+      let l = a .has-room in
+      let r : Machine = begun now (controlledBy t (now .device)) in
+      let e : after now (byWrite t) ≡ r = write-begins now t l (a .asks) (a .sleeps) (a .not-copying) (a .none-open) in
+      let u : runs (r .device .phase) ≡ true = rw (a .sleeps) (mode-runs (t .f4) (a .asks)) in
+      record {
+        begins = subst (λ (k : Machine). Begins now k (codesOf t)) (sym e) (record { begun-is = begun-more l; runs-now = u; codes-are = refl });
+        delivers = subst (λ (k : Machine). let x = closed (after k (measured t)) (t .lent) in Delivers (now .ledger .begun + 1) (now .ledger .delivered + 1) (codesOf t) t (x .0) (x .1))
+            (sym e) (turns t r (codesOf t) f u refl (a .none-open) (none-waiting (a .none-open)) refl refl l);
+      }
+
+  -- normal, by a wake
+  pub wake-runs-truly : (t : Turn) → Fits t → MayBeginByWake now → WakeRunsTruly now t
+  wake-runs-truly t f a =
+      let l = a .has-room in
+      let e : after now byWake ≡ awake now = wake-begins now (a .stands-by) l in
+      record {
+        begins = subst (λ (k : Machine). Begins now k (now .device .codes)) (sym e) (record { begun-is = begun-more l; runs-now = refl; codes-are = refl });
+        delivers = subst (λ (k : Machine). let x = closed (after k (measured t)) (t .lent) in Delivers (now .ledger .begun + 1) (now .ledger .delivered + 1) (now .device .codes) t (x .0) (x .1))
+            (sym e) (turns t (awake now) (now .device .codes) f refl (none-held (ap runs (a .stands-by))) (a .none-open) (none-waiting (a .none-open)) refl refl l);
+      }
+
+-- and no state is without a way on: after power and the end of copying a write begins the next
+after-append : (m : Machine) (es fs : List Event) → after m (es ++ fs) ≡ after (after m es) fs
+after-append m [] fs = refl
+after-append m (e ∷ es) fs = after-append (next m e) es fs
+
+pub power-leads-on : (es : List Event) (t : Turn) → Fits t → (t .f4 % 4 ≡ 0 → ⊥) → after fresh es .ledger .begun < reg.mostBegun
+    → WriteRunsTruly (after fresh (es ++ Power ∷ Copied ∷ [])) t
+power-leads-on es t f z l =
+    write-runs-truly (es ++ Power ∷ Copied ∷ []) t f
+    (subst (λ (m : Machine). MayBeginByWrite m t) (sym (after-append fresh es (Power ∷ Copied ∷ [])))
+    (record { sleeps = refl; not-copying = refl; none-open = refl; has-room = l; asks = z }))

@@ -1,0 +1,113 @@
+-- K12 and K13 read off their histories, and one longer history, worked out in docs/LEDGER.md.
+use Prim.Native.Nat.{ℕ}
+use mathlib.Core.Path.{_≡_, refl}
+use mathlib.Core.Bool.{Bool, true, false}
+use mathlib.Core.List.{List, [], _∷_, _++_}
+use Rattle.paper.specs.Registers as reg
+use Rattle.machine.specs.declared.Codes.{Codes}
+use Rattle.machine.specs.State.{fresh}
+use Rattle.machine.specs.Control.{effect, heldEffect}
+use Rattle.machine.specs.Data.{stored}
+use Rattle.machine.specs.Events.{showing, keeping, delivering, waitingShown, closed}
+use Rattle.machine.specs.Event.{Event, Copied, Write, Finish, Wake, Open, Byte, Close, after}
+use Rattle.machine.specs.Bench.{lent}
+use Rattle.ledger.specs.History.{Happening, began, finished, lost, opened, gave, wholeIn, delivered, overwritten, abandoned, standing}
+use Rattle.ledger.specs.History as hist
+use Rattle.ledger.specs.Told.{history}
+
+abbrev three : List Event
+three = Byte ∷ Byte ∷ Byte ∷ []
+
+abbrev eight : List Event
+eight = three ++ three ++ Byte ∷ Byte ∷ []
+
+-- copied, write F4 0x27, finish, wake, open F7, finish, some bytes, close
+abbrev measuredTwice : List Event → List Event
+measuredTwice bytes =
+    Copied ∷ Write reg.ctrlMeas 0x27 ∷ Finish 519888 415148 0 ∷ Wake ∷ Open reg.firstData ∷ Finish 1 2 3 ∷ [] ++ bytes ++ Close lent ∷ []
+
+-- 0x27: temperature and pressure once each, humidity skipped
+abbrev codes : Codes
+codes = record { temperature = 1; pressure = 1; humidity = 0 }
+
+abbrev first : List ℕ
+first = 0x65 ∷ 0x5A ∷ 0xC0 ∷ 0x7E ∷ 0xED ∷ 0x00 ∷ 0x80 ∷ 0x00 ∷ []
+
+abbrev second : List ℕ
+second = 0x00 ∷ 0x00 ∷ 0x20 ∷ 0x00 ∷ 0x00 ∷ 0x10 ∷ 0x80 ∷ 0x00 ∷ []
+
+-- up to the burst's bytes, the latest first
+abbrev started : List Happening
+started = finished second ∷ opened ∷ began codes ∷ finished first ∷ began codes ∷ []
+
+-- ---- K12: number 1 is delivered, and number 2 stands, shown unread
+
+abbrev k12 : List Happening
+k12 =
+    hist.closed ∷ gave 0xFE 0x00 ∷ gave 0xFD 0x80 ∷ gave 0xFC 0x00 ∷ gave 0xFB 0xED ∷ gave 0xFA 0x7E ∷ gave 0xF9 0xC0 ∷ gave 0xF8 0x5A ∷ gave 0xF7 0x65 ∷ started
+
+K12-history : history (measuredTwice eight) ≡ k12
+unfolding effect heldEffect stored showing keeping delivering waitingShown
+K12-history = refl
+
+-- the four fourPlaces of a conversion: delivered, overwritten, abandoned, standing
+abbrev fourPlaces : List Happening → ℕ → List Bool
+fourPlaces h k = delivered h k ∷ overwritten h k ∷ abandoned h k ∷ standing h k ∷ []
+
+K12-first : fourPlaces k12 1 ≡ true ∷ false ∷ false ∷ false ∷ []
+unfolding wholeIn
+K12-first = refl
+
+K12-second : fourPlaces k12 2 ≡ false ∷ false ∷ false ∷ true ∷ []
+unfolding wholeIn
+K12-second = refl
+
+-- ---- K13: number 1 is overwritten, and number 2 stands
+
+abbrev k13 : List Happening
+k13 = hist.closed ∷ gave 0xF9 0xC0 ∷ gave 0xF8 0x5A ∷ gave 0xF7 0x65 ∷ started
+
+K13-history : history (measuredTwice three) ≡ k13
+unfolding effect heldEffect stored showing keeping delivering waitingShown
+K13-history = refl
+
+K13-first : fourPlaces k13 1 ≡ false ∷ true ∷ false ∷ false ∷ []
+unfolding wholeIn
+K13-first = refl
+
+K13-second : fourPlaces k13 2 ≡ false ∷ false ∷ false ∷ true ∷ []
+unfolding wholeIn
+K13-second = refl
+
+-- ---- K12, then two bursts of number 2, a wake, and a reset: the repeat is no second delivery, and number 3 is abandoned
+
+abbrev burst : List Event
+burst = Open reg.firstData ∷ [] ++ eight ++ Close lent ∷ []
+
+abbrev worked : List Event
+worked = measuredTwice eight ++ burst ++ burst ++ Wake ∷ Write reg.reset reg.resetWord ∷ []
+
+abbrev read : List Happening
+read = hist.closed ∷ gave 0xFE 0x00 ∷ gave 0xFD 0x80 ∷ gave 0xFC 0x10 ∷ gave 0xFB 0x00 ∷ gave 0xFA 0x00 ∷ gave 0xF9 0x20 ∷ gave 0xF8 0x00 ∷ gave 0xF7 0x00 ∷ opened ∷ []
+
+worked-history : history worked ≡ lost ∷ began codes ∷ [] ++ read ++ read ++ k12
+unfolding effect heldEffect stored showing keeping delivering waitingShown
+worked-history = refl
+
+worked-second : fourPlaces (history worked) 2 ≡ true ∷ false ∷ false ∷ false ∷ []
+unfolding effect heldEffect stored showing keeping delivering waitingShown wholeIn
+worked-second = refl
+
+worked-third : fourPlaces (history worked) 3 ≡ false ∷ false ∷ true ∷ false ∷ []
+unfolding effect heldEffect stored showing keeping delivering waitingShown wholeIn
+worked-third = refl
+
+-- the kept counts
+worked-ledger : after fresh worked .ledger ≡ record { begun = 3; delivered = 2; overwritten = 0; abandoned = 1; standing = 0 }
+unfolding effect heldEffect stored showing keeping delivering waitingShown
+worked-ledger = refl
+
+-- the second burst of number 2 says that it was delivered before
+worked-repeat : closed (after fresh (measuredTwice eight ++ burst ++ Open reg.firstData ∷ [] ++ eight)) lent .0 .delivered ≡ true
+unfolding effect heldEffect stored showing keeping delivering waitingShown
+worked-repeat = refl

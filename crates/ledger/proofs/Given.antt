@@ -1,0 +1,109 @@
+-- What the open burst has given: the addresses from its first up to its next, so that the machine's test of a whole burst is the history's; and each data
+-- byte is of the conversion that the burst shows.
+use Prim.Native.Nat.{ℕ, zero, suc, _+_, _-_, _≤_, _<_}
+use mathlib.Core.Path.{_≡_, refl, sym, _∙_}
+use mathlib.Core.Bool.{Bool, true, false, _&&_, _||_, false≢true}
+use mathlib.Core.List.{List, [], _∷_}
+use native.Mathlib.Omega.{arith}
+use lib.Dec.{eqb, leb, ltb}
+use lib.ListN.{getD}
+use borrow.Author.Tests.{leb-true, ltb-true, le-leb, lt-ltb, le-ltb, ne-eqb, eqb-true, eqb-false}
+use Rattle.paper.specs.Registers as reg
+use Rattle.machine.specs.declared.Burst.{Burst}
+use Rattle.machine.specs.declared.Burst.the-variants.{Closed, Open}
+use Rattle.machine.specs.declared.Machine.{Machine}
+use Rattle.machine.specs.State.{isOpen}
+use Rattle.machine.specs.Data.{register}
+use Rattle.machine.specs.Events.{isWhole}
+use Rattle.ledger.specs.History.{Happening, givenIn, hasAddress, eachBelow, gaveData, wholeIn}
+use Rattle.ledger.proofs.Tests.{same-test, both, and-left, and-right}
+
+-- ---- addresses from i up to j
+
+abbrev within : ℕ → ℕ → ℕ → Bool
+within i j a = leb i a && ltb a j
+
+within-from : (i j a : ℕ) → i ≤ a → a < j → within i j a ≡ true
+within-from i j a l u = both (leb i a) (ltb a j) (le-leb i a l) (lt-ltb a j u)
+
+within-low : (i j a : ℕ) → within i j a ≡ true → i ≤ a
+within-low i j a e = leb-true i a (and-left (leb i a) (ltb a j) e)
+
+within-high : (i j a : ℕ) → within i j a ≡ true → a < j
+within-high i j a e = ltb-true a j (and-right (leb i a) (ltb a j) e)
+
+pub record Spans (i j : ℕ) (l : List (ℕ × ℕ)) : Type 0 where
+  pub ordered : i ≤ j
+  pub given-is : (a : ℕ) → hasAddress a l ≡ within i j a
+
+-- of a machine's burst
+abbrev pub Spanned : Burst → List (ℕ × ℕ) → Type 0
+Spanned Closed l = Unit {0}
+Spanned (Open i j) l = Spans i j l
+
+pub spans-opened : (a : ℕ) → Spans a a []
+spans-opened i = record { ordered = omega arith; given-is = none }
+  where
+    none : (a : ℕ) → false ≡ within i i a
+    none a = same-test false (within i i a) (λ e. absurd (false≢true e)) (λ e. absurd (omega (arith, within-low i i a e, within-high i i a e)))
+
+pub spans-gave : (i j v : ℕ) (l : List (ℕ × ℕ)) → Spans i j l → Spans i (j + 1) ((j, v) ∷ l)
+spans-gave i j v l s = record { ordered = omega (arith, s .ordered); given-is = λ a. rw (s .given-is a) (at a (eqb a j) refl) }
+  where
+    at : (a : ℕ) (t : Bool) → eqb a j ≡ t → (eqb a j || within i j a) ≡ within i (j + 1) a
+    at a true e = rw e (sym (within-from i (j + 1) a (omega (arith, eqb-true a j e, s .ordered)) (omega (arith, eqb-true a j e))))
+    at a false e = rw e (same-test (within i j a) (within i (j + 1) a)
+        (λ w. within-from i (j + 1) a (within-low i j a w) (omega (arith, within-high i j a w)))
+        (λ w. let n = eqb-false a j e in within-from i j a (within-low i (j + 1) a w) (lt-of (within-high i (j + 1) a w) n)))
+      where
+        lt-of : a < j + 1 → (a ≡ j → ⊥) → a < j
+        lt-of u n = omega arith
+
+-- ---- all of F7 to FE
+
+each-from : (n : ℕ) (f : ℕ → Bool) → ((k : ℕ) → k < n → f k ≡ true) → eachBelow n f ≡ true
+each-from zero f p = refl
+each-from (suc n) f p = rw (p n (omega arith)) (each-from n f (λ k l. p k (omega arith)))
+
+each-at : (n : ℕ) (f : ℕ → Bool) → eachBelow n f ≡ true → (k : ℕ) → k < n → f k ≡ true
+each-at zero f e k l = absurd (omega arith)
+each-at (suc n) f e k l = at (eqb k n) refl (each-at n f (and-right (f n) (eachBelow n f) e) k)
+  where
+    at : (t : Bool) → eqb k n ≡ t → (k < n → f k ≡ true) → f k ≡ true
+    at true q i = rw (eqb-true k n q) (and-left (f n) (eachBelow n f) e)
+    at false q i = let z = eqb-false k n q in i (omega arith)
+
+-- the machine's test of a burst from i, next at j
+spans-whole : (i j : ℕ) (h : List Happening) → Spans i j (givenIn h) → isWhole (Open i j) ≡ wholeIn h
+unfolding wholeIn
+spans-whole i j h s = same-test (isWhole (Open i j)) (eachBelow reg.dataLength (gaveData h)) all ends
+  where
+    all : isWhole (Open i j) ≡ true → eachBelow reg.dataLength (gaveData h) ≡ true
+    all e =
+        let low = leb-true i reg.firstData (and-left (leb i reg.firstData) (ltb reg.lastData j) e) in
+        let high = ltb-true reg.lastData j (and-right (leb i reg.firstData) (ltb reg.lastData j) e) in
+        each-from reg.dataLength (gaveData h) (λ k l. s .given-is (reg.firstData + k) ∙ within-from i j (reg.firstData + k) (omega arith) (omega arith))
+
+    ends : eachBelow reg.dataLength (gaveData h) ≡ true → isWhole (Open i j) ≡ true
+    ends e =
+        let low = within-low i j reg.firstData (sym (s .given-is reg.firstData) ∙ each-at reg.dataLength (gaveData h) e 0 (omega arith)) in
+        let high = within-high i j reg.lastData (sym (s .given-is reg.lastData) ∙ each-at reg.dataLength (gaveData h) e 7 (omega arith)) in
+        both (leb i reg.firstData) (ltb reg.lastData j) (le-leb i reg.firstData low) (lt-ltb reg.lastData j high)
+
+pub whole-is : (b : Burst) (h : List Happening) → isOpen b ≡ true → Spanned b (givenIn h) → isWhole b ≡ wholeIn h
+whole-is Closed h o s = absurd (false≢true o)
+whole-is (Open i j) h o s = spans-whole i j h s
+
+-- ---- the bytes
+
+pub register-data : (a : ℕ) (m : Machine) → reg.firstData ≤ a → a ≤ reg.lastData → register a m ≡ getD (m .shown .bytes) (a - reg.firstData) 0
+register-data a m l u =
+    rw (
+      ne-eqb a reg.chipId (λ e. omega arith),
+      ne-eqb a reg.ctrlHum (λ e. omega arith),
+      ne-eqb a reg.status (λ e. omega arith),
+      ne-eqb a reg.ctrlMeas (λ e. omega arith),
+      ne-eqb a reg.config (λ e. omega arith),
+      le-ltb a reg.firstData l,
+      le-ltb reg.lastData a u,
+    )

@@ -1,0 +1,201 @@
+-- The book's numbers are those of the conversions that the history has running, waiting and shown, and of no other.
+use Prim.Native.Nat.{ℕ, suc, _≤_}
+use mathlib.Core.Path.{_≡_, refl, sym, ap, _∙_}
+use mathlib.Core.Bool.{Bool, true, false, not, cond, _&&_, false≢true, true≢false}
+use mathlib.Core.List.{List, [], _∷_}
+use native.Mathlib.Omega.{arith}
+use lib.Dec.{eqb}
+use borrow.Author.Tests.{eqb-true, eq-eqb, ne-eqb}
+use Rattle.machine.specs.declared.Codes.{Codes}
+use Rattle.ledger.specs.History.{Happening, began, finished, lost, opened, gave, closed, begunIn, openIn, wholeIn, waitsIn, Reading, noReading, bit}
+use Rattle.ledger.proofs.Fate.{Fate, Unbegun, Running, Waiting, Unread, Read, Delivered, Overwritten, Abandoned, every, move, fate}
+use Rattle.ledger.proofs.Book.{Book, nonzero, nonzero-pos, some, latest, made, fresh, enter, Asks, runs}
+use Rattle.ledger.proofs.Right.{Right}
+
+-- u: one is running; n: the number begun; v: the waiting one; s: the shown one
+abbrev pub Named : Bool → ℕ → Reading → Reading → ℕ → Fate → Type 0
+Named u n v s k Unbegun = Unit {0}
+Named u n v s k Running = (u ≡ true) × (k ≡ n)
+Named u n v s k Waiting = (some v ≡ true) × (k ≡ v .number)
+Named u n v s k Unread = k ≡ s .number
+Named u n v s k Read = k ≡ s .number
+Named u n v s k Delivered = Unit {0}
+Named u n v s k Overwritten = Unit {0}
+Named u n v s k Abandoned = Unit {0}
+
+pub record Names (u : Bool) (b : Book) (h : List Happening) : Type 0 where
+  pub named : (k : ℕ) → Named u (begunIn h) (b .waiting) (b .shown) k (fate h k)
+  pub run-at : u ≡ true → fate h (begunIn h) ≡ Running
+  pub wait-at : some (b .waiting) ≡ true → fate h (b .waiting .number) ≡ Waiting
+  pub shown-at : some (b .shown) ≡ true → fate h (b .shown .number) ≡ cond (b .read) Read Unread
+  pub wait-le : b .waiting .number ≤ begunIn h
+  pub shown-le : b .shown .number ≤ begunIn h
+  pub none-read : some (b .shown) ≡ false → b .read ≡ false
+
+pub names-fresh : Names false fresh []
+names-fresh = record {
+  named = λ k. tt;
+  run-at = λ e. absurd (false≢true e);
+  wait-at = λ e. absurd (false≢true e);
+  shown-at = λ e. absurd (false≢true e);
+  wait-le = omega arith;
+  shown-le = omega arith;
+  none-read = λ e. refl;
+}
+
+-- a new beginning moves no conversion begun before
+old : (c : Codes) (h : List Happening) (k : ℕ) → k ≤ begunIn h → fate (began c ∷ h) k ≡ fate h k
+old c h k l = rw (ne-eqb k (suc (begunIn h)) (λ e. omega arith))
+
+latest-le : (u : Bool) (b : Book) (h : List Happening) → Names u b h → latest b .number ≤ begunIn h
+latest-le u b h p = at (some (b .waiting)) refl
+  where
+    at : (w : Bool) → some (b .waiting) ≡ w → latest b .number ≤ begunIn h
+    at true e = rw e (p .wait-le)
+    at false e = rw e (p .shown-le)
+
+-- a shown conversion, read or not: while a burst is open, and at a close with none waiting
+shown-stays : (bs : List ℕ) (g w n t : Bool) → move (finished bs) true g w n (cond t Read Unread) ≡ cond t Read Unread
+shown-stays bs g w n true = refl
+shown-stays bs g w n false = refl
+
+shown-closes : (o g n t : Bool) → move closed o g false n (cond t Read Unread) ≡ cond (cond g true t) Read Unread
+shown-closes o true n true = refl
+shown-closes o true n false = refl
+shown-closes o false n true = refl
+shown-closes o false n false = refl
+
+module _ (n : ℕ) (v s : Reading) (k : ℕ) where
+  named-began : (t : Bool) → (t ≡ true → k ≡ suc n) → (q : Fate) → Named false n v s k q → Named true (suc n) v s k (cond t Running q)
+  named-began true e = λ q m. (refl, e refl)
+  named-began false e = every (λ q. Named false n v s k q → Named true (suc n) v s k q)
+      (λ m. m) (λ m. absurd (false≢true (m .0))) (λ m. m) (λ m. m) (λ m. m) (λ m. m) (λ m. m) (λ m. m)
+
+  named-finished : (bs : List ℕ) (o g w t u : Bool) (c : Reading) → some c ≡ true → n ≡ c .number → (q : Fate) → Named u n v s k q
+      → Named false n (cond o c noReading) (cond o s c) k (move (finished bs) o g w t q)
+  named-finished bs true g w t u c f e = every (λ q. Named u n v s k q → Named false n c s k (move (finished bs) true g w t q))
+      (λ m. tt) (λ m. (f, m .1 ∙ e)) (λ m. tt) (λ m. m) (λ m. m) (λ m. tt) (λ m. tt) (λ m. tt)
+  named-finished bs false g w t u c f e = every (λ q. Named u n v s k q → Named false n noReading c k (move (finished bs) false g w t q))
+      (λ m. tt) (λ m. m .1 ∙ e) (λ m. tt) (λ m. tt) (λ m. tt) (λ m. tt) (λ m. tt) (λ m. tt)
+
+  named-lost : (o g w t : Bool) (q : Fate) → Named false n noReading noReading k (move lost o g w t q)
+  named-lost o g w t = every (λ q. Named false n noReading noReading k (move lost o g w t q)) tt tt tt tt tt tt tt tt
+
+  named-closed : (o g w t u : Bool) → some v ≡ w → (q : Fate) → Named u n v s k q → Named u n noReading (cond w v s) k (move closed o g w t q)
+  named-closed o true true t u e = every (λ q. Named u n v s k q → Named u n noReading v k (move closed o true true t q))
+      (λ m. tt) (λ m. m) (λ m. m .1) (λ m. tt) (λ m. tt) (λ m. tt) (λ m. tt) (λ m. tt)
+  named-closed o false true t u e = every (λ q. Named u n v s k q → Named u n noReading v k (move closed o false true t q))
+      (λ m. tt) (λ m. m) (λ m. m .1) (λ m. tt) (λ m. tt) (λ m. tt) (λ m. tt) (λ m. tt)
+  named-closed o true false t u e = every (λ q. Named u n v s k q → Named u n noReading s k (move closed o true false t q))
+      (λ m. tt) (λ m. m) (λ m. absurd (true≢false (sym (m .0) ∙ e))) (λ m. m) (λ m. m) (λ m. tt) (λ m. tt) (λ m. tt)
+  named-closed o false false t u e = every (λ q. Named u n v s k q → Named u n noReading s k (move closed o false false t q))
+      (λ m. tt) (λ m. m) (λ m. absurd (true≢false (sym (m .0) ∙ e))) (λ m. m) (λ m. m) (λ m. tt) (λ m. tt) (λ m. tt)
+
+pub names-enter : (x : Happening) (u : Bool) (b : Book) (h : List Happening) → Asks x u (b .burst) → Right u b h → Names u b h
+    → Names (runs x u) (enter x (wholeIn h) b) (x ∷ h)
+names-enter (began c) u b h a r p = record {
+  named = λ k. named-began (begunIn h) (b .waiting) (b .shown) k (eqb k (suc (begunIn h))) (eqb-true k (suc (begunIn h))) (fate h k) (rw a at (p .named k));
+  run-at = λ e. rw (eq-eqb (suc (begunIn h)) (suc (begunIn h)) refl);
+  wait-at = λ e. old c h (b .waiting .number) (p .wait-le) ∙ p .wait-at e;
+  shown-at = λ e. old c h (b .shown .number) (p .shown-le) ∙ p .shown-at e;
+  wait-le = omega (arith, p .wait-le);
+  shown-le = omega (arith, p .shown-le);
+  none-read = p .none-read;
+}
+names-enter (finished bs) u b h a r p = at (b .burst) refl
+  where
+    one : nonzero (b .ledger .begun) ≡ true
+    one = nonzero-pos (b .ledger .begun) (omega (arith, r .begun-is, r .begun-some, ap bit a))
+
+    moves : (o : Bool) → openIn h ≡ o → (k : ℕ)
+        → Named false (begunIn h) (cond o (made b bs) noReading) (cond o (b .shown) (made b bs)) k (fate (finished bs ∷ h) k)
+    moves o e k = rw e
+        (named-finished (begunIn h) (b .waiting) (b .shown) k bs o (wholeIn h) (waitsIn h) (eqb k (suc (begunIn h))) u (made b bs) one (sym (r .begun-is)) (fate h k) (p .named k))
+
+    at : (o : Bool) → b .burst ≡ o → Names false (enter (finished bs) (wholeIn h) b) (finished bs ∷ h)
+    at true e =
+        let o : openIn h ≡ true = sym (r .open-is) ∙ e in
+        rw (e, enter) (record {
+          named = moves true o;
+          run-at = λ q. absurd (false≢true q);
+          wait-at = λ q. rw (o, r .begun-is, p .run-at a);
+          shown-at = λ q. rw (o, p .shown-at q) (shown-stays bs (wholeIn h) (waitsIn h) (eqb (b .shown .number) (suc (begunIn h))) (b .read));
+          wait-le = omega (arith, r .begun-is);
+          shown-le = p .shown-le;
+          none-read = p .none-read;
+        })
+    at false e =
+        let o : openIn h ≡ false = sym (r .open-is) ∙ e in
+        rw (e, enter) (record {
+          named = moves false o;
+          run-at = λ q. absurd (false≢true q);
+          wait-at = λ q. absurd (false≢true q);
+          shown-at = λ q. rw (o, r .begun-is, p .run-at a);
+          wait-le = omega arith;
+          shown-le = omega (arith, r .begun-is);
+          none-read = λ q. refl;
+        })
+names-enter lost u b h a r p = record {
+  named = λ k. named-lost (begunIn h) noReading noReading k (openIn h) (wholeIn h) (waitsIn h) (eqb k (suc (begunIn h))) (fate h k);
+  run-at = λ e. absurd (false≢true e);
+  wait-at = λ e. absurd (false≢true e);
+  shown-at = λ e. absurd (false≢true e);
+  wait-le = omega arith;
+  shown-le = omega arith;
+  none-read = λ e. refl;
+}
+names-enter opened u b h a r p = record {
+  named = p .named;
+  run-at = p .run-at;
+  wait-at = p .wait-at;
+  shown-at = p .shown-at;
+  wait-le = p .wait-le;
+  shown-le = p .shown-le;
+  none-read = p .none-read;
+}
+names-enter (gave i v) u b h a r p = record {
+  named = p .named;
+  run-at = p .run-at;
+  wait-at = p .wait-at;
+  shown-at = p .shown-at;
+  wait-le = p .wait-le;
+  shown-le = p .shown-le;
+  none-read = p .none-read;
+}
+names-enter closed u b h a r p = at (wholeIn h) refl
+  where
+    moves : (g : Bool) → wholeIn h ≡ g → (k : ℕ) → Named u (begunIn h) noReading (latest b) k (fate (closed ∷ h) k)
+    moves g e k = rw (e, ← r .waits-is)
+        (named-closed (begunIn h) (b .waiting) (b .shown) k (openIn h) g (some (b .waiting)) (eqb k (suc (begunIn h))) u refl (fate h k) (p .named k))
+
+    -- whole: what was shown is read; partial: it is as it was
+    shows : (g f : Bool) → wholeIn h ≡ g → (some (b .shown) ≡ true → cond g true (b .read) ≡ f) → (w : Bool) → some (b .waiting) ≡ w → some (latest b) ≡ true
+        → fate (closed ∷ h) (latest b .number) ≡ cond (not (some (b .waiting)) && f) Read Unread
+    shows g f e q true w s = rw (w, p .wait-at w)
+    shows g f e q false w s =
+        let t : some (b .shown) ≡ true = rw w at s in
+        rw (w, p .shown-at t, ← r .waits-is, w, e, ← q t) (shown-closes (openIn h) g (eqb (b .shown .number) (suc (begunIn h))) (b .read))
+
+    idle : (f : Bool) → (some (b .shown) ≡ false → f ≡ false) → (w : Bool) → some (b .waiting) ≡ w → some (latest b) ≡ false → not (some (b .waiting)) && f ≡ false
+    idle f q true w s = rw w
+    idle f q false w s = rw w (q (rw w at s))
+
+    at : (g : Bool) → wholeIn h ≡ g → Names u (enter closed (wholeIn h) b) (closed ∷ h)
+    at true e = rw (e, enter) (record {
+      named = moves true e;
+      run-at = λ q. rw (p .run-at q);
+      wait-at = λ q. absurd (false≢true q);
+      shown-at = shows true (some (b .shown)) e sym (some (b .waiting)) refl;
+      wait-le = omega arith;
+      shown-le = latest-le u b h p;
+      none-read = idle (some (b .shown)) (λ q. q) (some (b .waiting)) refl;
+    })
+    at false e = rw (e, enter) (record {
+      named = moves false e;
+      run-at = λ q. rw (p .run-at q);
+      wait-at = λ q. absurd (false≢true q);
+      shown-at = shows false (b .read) e (λ _. refl) (some (b .waiting)) refl;
+      wait-le = omega arith;
+      shown-le = latest-le u b h p;
+      none-read = idle (b .read) (p .none-read) (some (b .waiting)) refl;
+    })

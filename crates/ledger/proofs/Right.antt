@@ -1,0 +1,185 @@
+-- The book is right about the history: its counts are the tally's, and what it shows and has waiting are the conversions that the history says.
+use Prim.Native.Nat.{_+_, _≤_}
+use mathlib.Core.Path.{_≡_, refl, sym, ap, ap₂, _∙_}
+use mathlib.Core.Bool.{Bool, true, false, cond, false≢true}
+use mathlib.Core.List.{List, [], _∷_}
+use native.Mathlib.Omega.{arith}
+use Rattle.ledger.specs.History.{Happening, began, finished, lost, opened, gave, closed, begunIn, codesIn, openIn, wholeIn, waitsIn, Reading, lastFinished, shownBy, bit}
+use Rattle.ledger.proofs.Tally.{Counts, counts, same, add, oneRuns, flow, total, total-none, total-flow, total-began, counted, adds-up}
+use Rattle.ledger.proofs.Book.{Book, nonzero, nonzero-pos, some, unread, latest, fresh, enter, Asks, runs, unread-whole, unread-partial}
+
+-- the conversion that is shown, in a burst or not
+abbrev shownNow : List Happening → Reading
+shownNow h = cond (openIn h) (shownBy h) (lastFinished h)
+
+-- u: one is running
+abbrev kept : Bool → Book → Counts
+kept u b = counts (b .ledger .delivered) (b .ledger .overwritten) (b .ledger .abandoned) (bit u) (bit (some (b .waiting))) (bit (unread b))
+
+pub record Right (u : Bool) (b : Book) (h : List Happening) : Type 0 where
+  pub begun-is : b .ledger .begun ≡ begunIn h
+  pub begun-some : bit u ≤ begunIn h
+  pub codes-is : u ≡ true → b .codes ≡ codesIn h
+  pub open-is : b .burst ≡ openIn h
+  pub waits-is : some (b .waiting) ≡ waitsIn h
+  pub shown-is : b .shown ≡ shownNow h
+  pub latest-is : latest b ≡ lastFinished h
+  pub counts-are : total h ≡ kept u b
+  pub standing-is : b .ledger .standing ≡ bit u + bit (some (b .waiting)) + bit (unread b)
+
+pub right-fresh : Right false fresh []
+right-fresh = record {
+  begun-is = refl;
+  begun-some = omega arith;
+  codes-is = λ e. absurd (false≢true e);
+  open-is = refl;
+  waits-is = refl;
+  shown-is = refl;
+  latest-is = refl;
+  counts-are = total-none;
+  standing-is = refl;
+}
+
+-- where no burst is open nothing waits
+pub none-waits : (h : List Happening) → openIn h ≡ false → waitsIn h ≡ false
+none-waits [] e = refl
+none-waits (began c ∷ h) e = none-waits h e
+none-waits (finished bs ∷ h) e = e
+none-waits (lost ∷ h) e = refl
+none-waits (opened ∷ h) e = refl
+none-waits (gave a v ∷ h) e = none-waits h e
+none-waits (closed ∷ h) e = refl
+
+-- the counts add up
+pub right-sum : (u : Bool) (b : Book) (h : List Happening) → Right u b h
+    → b .ledger .delivered + b .ledger .overwritten + b .ledger .abandoned + b .ledger .standing ≡ b .ledger .begun
+right-sum u b h r =
+    let c = counted h in
+    let t = r .counts-are in
+    omega (
+      arith,
+      c .delivered-is ∙ ap (λ (x : Counts). x .delivered) t,
+      c .overwritten-is ∙ ap (λ (x : Counts). x .overwritten) t,
+      c .abandoned-is ∙ ap (λ (x : Counts). x .abandoned) t,
+      c .standing-is ∙ ap (λ (x : Counts). x .running + x .waiting + x .unread) t,
+      r .standing-is,
+      adds-up h,
+      r .begun-is,
+    )
+
+partial-flow : (o u : Bool) (b : Book) → flow closed o false (some (b .waiting)) (kept u b) ≡ kept u (enter closed false b)
+partial-flow o u b = at (some (b .waiting)) refl
+  where
+    at : (w : Bool) → some (b .waiting) ≡ w → flow closed o false (some (b .waiting)) (kept u b) ≡ kept u (enter closed false b)
+    at true e = rw (e, e)
+    at false e = rw e (same refl (omega arith) refl refl refl (omega arith))
+
+pub right-enter : (x : Happening) (u : Bool) (b : Book) (h : List Happening) → Asks x u (b .burst) → Right u b h
+    → Right (runs x u) (enter x (wholeIn h) b) (x ∷ h)
+right-enter (began c) u b h a r = record {
+  begun-is = omega (arith, r .begun-is);
+  begun-some = omega arith;
+  codes-is = λ e. refl;
+  open-is = r .open-is;
+  waits-is = r .waits-is;
+  shown-is = r .shown-is;
+  latest-is = r .latest-is;
+  counts-are =
+      total-began c h ∙ ap (add oneRuns) (r .counts-are)
+      ∙ same (omega arith) (omega arith) (omega arith) (omega (arith, ap bit a)) (omega arith) (omega arith);
+  standing-is = omega (arith, ap bit a, r .standing-is);
+}
+right-enter (finished bs) u b h a r = at (b .burst) refl
+  where
+    one : nonzero (b .ledger .begun) ≡ true
+    one = nonzero-pos (b .ledger .begun) (omega (arith, r .begun-is, r .begun-some, ap bit a))
+
+    flown : (o : Bool) → b .burst ≡ o → total (finished bs ∷ h) ≡ flow (finished bs) o (wholeIn h) (waitsIn h) (kept u b)
+    flown o e = total-flow (finished bs) h refl ∙ ap₂ (λ o t. flow (finished bs) o (wholeIn h) (waitsIn h) t) (sym (r .open-is) ∙ e) (r .counts-are)
+
+    at : (o : Bool) → b .burst ≡ o → Right false (enter (finished bs) (wholeIn h) b) (finished bs ∷ h)
+    at true e = rw (e, enter) (record {
+      begun-is = r .begun-is;
+      begun-some = omega arith;
+      codes-is = λ q. absurd (false≢true q);
+      open-is = sym e ∙ r .open-is;
+      waits-is = one ∙ sym e ∙ r .open-is;
+      shown-is = r .shown-is ∙ rw (← r .open-is, e);
+      latest-is = rw one (cc (r .begun-is, r .codes-is a));
+      counts-are = flown true e ∙ same refl refl refl refl (rw (a, one)) refl;
+      standing-is = omega (arith, r .standing-is, ap bit a, ap bit one);
+    })
+    at false e =
+        let idle : some (b .waiting) ≡ false = r .waits-is ∙ none-waits h (sym (r .open-is) ∙ e) in
+        rw (e, enter) (record {
+          begun-is = r .begun-is;
+          begun-some = omega arith;
+          codes-is = λ q. absurd (false≢true q);
+          open-is = sym e ∙ r .open-is;
+          waits-is = sym e ∙ r .open-is;
+          shown-is = rw (← r .open-is, e) (cc (r .begun-is, r .codes-is a));
+          latest-is = cc (r .begun-is, r .codes-is a);
+          counts-are = flown false e ∙ same refl (omega (arith, ap bit idle)) refl refl refl (rw (a, one));
+          standing-is = rw one (omega (arith, r .standing-is, ap bit idle, ap bit a));
+        })
+right-enter lost u b h a r = record {
+  begun-is = r .begun-is;
+  begun-some = omega arith;
+  codes-is = λ e. absurd (false≢true e);
+  open-is = refl;
+  waits-is = refl;
+  shown-is = refl;
+  latest-is = refl;
+  counts-are = total-flow lost h refl ∙ ap (flow lost (openIn h) (wholeIn h) (waitsIn h)) (r .counts-are) ∙ same refl refl (omega (arith, r .standing-is)) refl refl refl;
+  standing-is = refl;
+}
+right-enter opened u b h a r = record {
+  begun-is = r .begun-is;
+  begun-some = r .begun-some;
+  codes-is = r .codes-is;
+  open-is = refl;
+  waits-is = r .waits-is ∙ none-waits h (sym (r .open-is) ∙ a);
+  shown-is = r .shown-is ∙ rw (← r .open-is, a);
+  latest-is = r .latest-is;
+  counts-are = total-flow opened h refl ∙ r .counts-are;
+  standing-is = r .standing-is;
+}
+right-enter (gave i v) u b h a r = record {
+  begun-is = r .begun-is;
+  begun-some = r .begun-some;
+  codes-is = r .codes-is;
+  open-is = r .open-is;
+  waits-is = r .waits-is;
+  shown-is = r .shown-is;
+  latest-is = r .latest-is;
+  counts-are = total-flow (gave i v) h refl ∙ r .counts-are;
+  standing-is = r .standing-is;
+}
+right-enter closed u b h a r = at (wholeIn h) refl
+  where
+    flown : (g : Bool) → wholeIn h ≡ g → total (closed ∷ h) ≡ flow closed (openIn h) g (some (b .waiting)) (kept u b)
+    flown g e = total-flow closed h refl ∙ rw (e, ← r .waits-is) (ap (flow closed (openIn h) g (some (b .waiting))) (r .counts-are))
+
+    at : (g : Bool) → wholeIn h ≡ g → Right u (enter closed (wholeIn h) b) (closed ∷ h)
+    at true e = rw (e, enter) (record {
+      begun-is = r .begun-is;
+      begun-some = r .begun-some;
+      codes-is = r .codes-is;
+      open-is = refl;
+      waits-is = refl;
+      shown-is = r .latest-is;
+      latest-is = r .latest-is;
+      counts-are = flown true e ∙ same refl refl refl refl refl (sym (unread-whole b));
+      standing-is = omega (arith, r .standing-is, unread-whole b);
+    })
+    at false e = rw (e, enter) (record {
+      begun-is = r .begun-is;
+      begun-some = r .begun-some;
+      codes-is = r .codes-is;
+      open-is = refl;
+      waits-is = refl;
+      shown-is = r .latest-is;
+      latest-is = r .latest-is;
+      counts-are = flown false e ∙ partial-flow (openIn h) u b;
+      standing-is = omega (arith, r .standing-is, unread-partial b);
+    })

@@ -1,0 +1,265 @@
+-- A history is the list of what happened, the latest first. The places of the ledger are read off it alone, each by the paper's own sentence:
+-- nothing here looks at a machine.
+use Prim.Native.Nat.{ℕ, zero, suc, _+_}
+use mathlib.Core.Bool.{Bool, true, false, not, cond, _&&_, _||_}
+use mathlib.Core.List.{List, [], _∷_}
+use lib.Dec.{eqb}
+use Rattle.paper.specs.Registers as reg
+use Rattle.machine.specs.declared.Codes.{Codes}
+use Rattle.machine.specs.State.{noCodes}
+
+-- A conversion began, with its codes; the running one finished, with its data bytes; a reset or power event came; a burst was opened; it gave the
+-- register at an address, with its value; it was closed.
+pub data Happening : Type 0 where
+  began : Codes → Happening
+  finished : List ℕ → Happening
+  lost opened closed : Happening
+  gave : ℕ → ℕ → Happening
+
+-- ---- conversions are numbered from 1 in order of beginning
+
+abbrev pub begunIn : List Happening → ℕ
+begunIn [] = 0
+begunIn (began c ∷ h) = suc (begunIn h)
+begunIn (finished bs ∷ h) = begunIn h
+begunIn (lost ∷ h) = begunIn h
+begunIn (opened ∷ h) = begunIn h
+begunIn (gave a v ∷ h) = begunIn h
+begunIn (closed ∷ h) = begunIn h
+
+-- the codes that the last one began with
+abbrev pub codesIn : List Happening → Codes
+codesIn [] = noCodes
+codesIn (began c ∷ h) = c
+codesIn (finished bs ∷ h) = codesIn h
+codesIn (lost ∷ h) = codesIn h
+codesIn (opened ∷ h) = codesIn h
+codesIn (gave a v ∷ h) = codesIn h
+codesIn (closed ∷ h) = codesIn h
+
+-- ---- the burst that is open at the end
+
+abbrev pub openIn : List Happening → Bool
+openIn [] = false
+openIn (began c ∷ h) = openIn h
+openIn (finished bs ∷ h) = openIn h
+openIn (lost ∷ h) = false
+openIn (opened ∷ h) = true
+openIn (gave a v ∷ h) = openIn h
+openIn (closed ∷ h) = false
+
+-- the registers that it has given, address and value, the latest first
+abbrev pub givenIn : List Happening → List (ℕ × ℕ)
+givenIn [] = []
+givenIn (began c ∷ h) = givenIn h
+givenIn (finished bs ∷ h) = givenIn h
+givenIn (lost ∷ h) = []
+givenIn (opened ∷ h) = []
+givenIn (gave a v ∷ h) = (a, v) ∷ givenIn h
+givenIn (closed ∷ h) = []
+
+-- one of them is at the address a
+abbrev pub hasAddress : ℕ → List (ℕ × ℕ) → Bool
+hasAddress a [] = false
+hasAddress a (x ∷ l) = eqb a (x .0) || hasAddress a l
+
+-- the test holds of each number below n
+abbrev pub eachBelow : ℕ → (ℕ → Bool) → Bool
+eachBelow zero f = true
+eachBelow (suc n) f = f n && eachBelow n f
+
+-- the data byte i was given, counted from 0 at F7
+abbrev pub gaveData : List Happening → ℕ → Bool
+gaveData h i = hasAddress (reg.firstData + i) (givenIn h)
+
+-- whole: all of F7 to FE were given since it was opened
+unfoldable pub wholeIn : List Happening → Bool
+wholeIn h = eachBelow reg.dataLength (gaveData h)
+
+-- a conversion has finished since it was opened, and waits
+abbrev pub waitsIn : List Happening → Bool
+waitsIn [] = false
+waitsIn (began c ∷ h) = waitsIn h
+waitsIn (finished bs ∷ h) = openIn h
+waitsIn (lost ∷ h) = false
+waitsIn (opened ∷ h) = false
+waitsIn (gave a v ∷ h) = waitsIn h
+waitsIn (closed ∷ h) = false
+
+-- ---- the conversion that a burst shows
+
+pub record Reading : Type 0 where
+  pub number : ℕ
+  pub codes : Codes
+  pub bytes : List ℕ
+
+abbrev pub noReading : Reading
+noReading = record { number = 0; codes = noCodes; bytes = reg.freshBytes }
+
+-- the last conversion that finished after the last reset or power event
+abbrev pub lastFinished : List Happening → Reading
+lastFinished [] = noReading
+lastFinished (began c ∷ h) = lastFinished h
+lastFinished (finished bs ∷ h) = record { number = begunIn h; codes = codesIn h; bytes = bs }
+lastFinished (lost ∷ h) = noReading
+lastFinished (opened ∷ h) = lastFinished h
+lastFinished (gave a v ∷ h) = lastFinished h
+lastFinished (closed ∷ h) = lastFinished h
+
+-- the history before a burst was last opened
+abbrev pub beforeOpened : List Happening → List Happening
+beforeOpened [] = []
+beforeOpened (began c ∷ h) = beforeOpened h
+beforeOpened (finished bs ∷ h) = beforeOpened h
+beforeOpened (lost ∷ h) = beforeOpened h
+beforeOpened (opened ∷ h) = h
+beforeOpened (gave a v ∷ h) = beforeOpened h
+beforeOpened (closed ∷ h) = beforeOpened h
+
+-- what the open burst shows: the last that finished before it was opened
+abbrev pub shownBy : List Happening → Reading
+shownBy h = lastFinished (beforeOpened h)
+
+-- ---- where a conversion is
+
+pub data Where : Type 0 where
+  unbegun running waiting shown gone : Where
+
+-- The running one finishes: it is shown, or waits while a burst is open (o). The one that it replaces is gone.
+abbrev pub finishes : Bool → Where → Where
+finishes o unbegun = unbegun
+finishes o running = cond o waiting shown
+finishes o waiting = gone
+finishes o shown = cond o shown gone
+finishes o gone = gone
+
+-- The burst is closed: the waiting one is shown, and replaces the shown one if one waits (w).
+abbrev pub closes : Bool → Where → Where
+closes w unbegun = unbegun
+closes w running = running
+closes w waiting = shown
+closes w shown = cond w gone shown
+closes w gone = gone
+
+-- a reset or power event leaves none
+abbrev pub loses : Where → Where
+loses unbegun = unbegun
+loses running = gone
+loses waiting = gone
+loses shown = gone
+loses gone = gone
+
+abbrev pub whereIs : List Happening → ℕ → Where
+whereIs [] k = unbegun
+whereIs (began c ∷ h) k = cond (eqb k (suc (begunIn h))) running (whereIs h k)
+whereIs (finished bs ∷ h) k = finishes (openIn h) (whereIs h k)
+whereIs (lost ∷ h) k = loses (whereIs h k)
+whereIs (opened ∷ h) k = whereIs h k
+whereIs (gave a v ∷ h) k = whereIs h k
+whereIs (closed ∷ h) k = closes (waitsIn h) (whereIs h k)
+
+abbrev pub isRunning : Where → Bool
+isRunning unbegun = false
+isRunning running = true
+isRunning waiting = false
+isRunning shown = false
+isRunning gone = false
+
+abbrev pub isWaiting : Where → Bool
+isWaiting unbegun = false
+isWaiting running = false
+isWaiting waiting = true
+isWaiting shown = false
+isWaiting gone = false
+
+abbrev pub isShown : Where → Bool
+isShown unbegun = false
+isShown running = false
+isShown waiting = false
+isShown shown = true
+isShown gone = false
+
+abbrev pub isBegun : Where → Bool
+isBegun unbegun = false
+isBegun running = true
+isBegun waiting = true
+isBegun shown = true
+isBegun gone = true
+
+-- running, waiting or shown
+abbrev pub isPresent : Where → Bool
+isPresent w = isRunning w || (isWaiting w || isShown w)
+
+-- ---- the four places of the ledger
+
+-- a reset or power event
+abbrev pub isLoss : Happening → Bool
+isLoss (began c) = false
+isLoss (finished bs) = false
+isLoss lost = true
+isLoss opened = false
+isLoss (gave a v) = false
+isLoss closed = false
+
+abbrev pub isClose : Happening → Bool
+isClose (began c) = false
+isClose (finished bs) = false
+isClose lost = false
+isClose opened = false
+isClose (gave a v) = false
+isClose closed = true
+
+-- a closed burst, if it was whole (g), shows one at w
+abbrev pub delivers : Happening → Bool → Where → Bool
+delivers x g w = isClose x && (g && isShown w)
+
+-- a reset or power event finds one at w running, waiting or shown
+abbrev pub finds : Happening → Where → Bool
+finds x w = isLoss x && isPresent w
+
+-- A later finished one takes the place of one at w: at a finish the waiting one's, and the shown one's unless a burst is open (o); at a close the shown
+-- one's if one waits (u).
+abbrev pub replaces : Happening → Bool → Bool → Where → Bool
+replaces (began c) o u w = false
+replaces (finished bs) o u w = isWaiting w || (isShown w && not o)
+replaces lost o u w = false
+replaces opened o u w = false
+replaces (gave a v) o u w = false
+replaces closed o u w = isShown w && u
+
+-- at some moment the test holds of what happened then, of the history before it, and of k
+abbrev pub once : (Happening → List Happening → ℕ → Bool) → List Happening → ℕ → Bool
+once test [] k = false
+once test (x ∷ h) k = once test h k || test x h k
+
+-- Delivered: some whole closed burst showed it.
+abbrev pub delivered : List Happening → ℕ → Bool
+delivered = once (λ x h k. delivers x (wholeIn h) (whereIs h k))
+
+-- Abandoned: not delivered before a reset or power event found it running, waiting or shown.
+abbrev pub abandoned : List Happening → ℕ → Bool
+abandoned = once (λ x h k. finds x (whereIs h k) && not (delivered h k))
+
+-- Overwritten: a later finished one replaced it while waiting or shown, undelivered.
+abbrev pub overwritten : List Happening → ℕ → Bool
+overwritten = once (λ x h k. replaces x (openIn h) (waitsIn h) (whereIs h k) && not (delivered (x ∷ h) k))
+
+-- a reset or power event came after its beginning
+abbrev pub lostSince : List Happening → ℕ → Bool
+lostSince = once (λ x h k. isLoss x && isBegun (whereIs h k))
+
+-- Standing: begun and not finished since, or finished and at the history's end waiting or shown, with no whole close of it and no reset or power event
+-- after its beginning.
+abbrev pub standing : List Happening → ℕ → Bool
+standing h k = isPresent (whereIs h k) && (not (delivered h k) && not (lostSince h k))
+
+-- ---- counting
+
+abbrev pub bit : Bool → ℕ
+bit true = 1
+bit false = 0
+
+-- of how many of the conversions 1 to n the test holds
+abbrev pub count : ℕ → (ℕ → Bool) → ℕ
+count zero f = 0
+count (suc n) f = bit (f (suc n)) + count n f

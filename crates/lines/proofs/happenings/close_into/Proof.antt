@@ -1,0 +1,41 @@
+-- What the events library leaves, written down.
+use Rattle.lines.specs.Happenings.{closeInto, closedTold}
+use Prim.Native.Nat.{ℕ}
+use mathlib.Core.List.{List}
+use mathlib.Core.Path.{ap}
+use Rattle.machine.specs.declared.Closing.{Closing}
+use borrow.Author.Needs.{needs}
+use Rattle.lines.proofs.happenings.close_into.Statement.{statement}
+use Rattle.lines.proofs.happenings.close_into.Tie as tie
+
+close-requires : tie.Need-close-requires
+close-requires c κs = search needs
+
+tell-closing-requires : tie.Need-tell-closing-requires
+tell-closing-requires c κs = search needs
+
+buffer-requires : tie.Need-buffer-requires
+buffer-requires c κs = search needs
+
+same-length : tie.Need-same-length
+same-length c = search needs
+
+same-length-2 : tie.Need-same-length-2
+same-length-2 c = search needs
+
+returns : tie.Need-returns
+unfolding closeInto closedTold
+returns c =
+    let a = c .before .before .before .before .before .before .before .before .before .before .before .before .before .before .before .before .args in
+    rw (c .before .before .buffer .ensures, c .before .before .before .before .before .before .before .tell-closing .ensures) (ap (λ (x : Closing × List ℕ). closedTold x (a .out .now, a .at)) (c .before .before .before .before .before .before .before .before .before .before .before .before .close .ensures))
+
+pub close-into-spec : {M : Type 1} → statement M
+close-into-spec =
+    tie.close
+    (tie.spec
+    close-requires
+    tell-closing-requires
+    buffer-requires
+    same-length
+    same-length-2
+    returns)

@@ -1,0 +1,49 @@
+-- The part of the filled buffer that is of the length asked.
+use Rattle.lines.specs.Messages.{readWith}
+use Rattle.lines.specs.Words.{lentOf}
+use Prim.Native.Nat.{_≤_}
+use native.Mathlib.Omega.{arith}
+use mathlib.Core.Path.{sym}
+use lib.ListN.{length}
+use lib.Seq.{length-take-le}
+use borrow.Author.Needs.{needs}
+use Rattle.lines.proofs.messages.read_with.Statement.{statement}
+use Rattle.lines.proofs.messages.read_with.Tie as tie
+
+filled-requires : tie.Need-filled-requires
+filled-requires c κs = search needs
+
+within-requires : tie.Need-within-requires
+within-requires c κs = search needs
+
+array-borrow-prefix-lent : tie.Need-array-borrow-prefix-lent
+array-borrow-prefix-lent c = omega (arith, c .within .ensures .1, c .before .filled .ensures .1)
+
+slice-aggregate-read-into : tie.Need-slice-aggregate-read-into
+slice-aggregate-read-into c =
+    let n = c .before .within in
+    let s = c .before .before .filled in
+    let h : n .result ≤ length (s .result) = omega (arith, n .ensures .1, s .ensures .1) in
+    sym (length-take-le (n .result) (s .result) h)
+
+read-into-requires : tie.Need-read-into-requires
+read-into-requires c κs = search needs
+
+same-length : tie.Need-same-length
+same-length c = search needs
+
+returns : tie.Need-returns
+unfolding readWith lentOf
+returns c = rw (c .before .before .before .read-into .ensures, c .before .before .before .before .before .before .within .ensures .0, c .before .before .before .before .before .before .before .filled .ensures .0)
+
+pub read-with-spec : {M : Type 1} → statement M
+read-with-spec =
+    tie.close
+    (tie.spec
+    filled-requires
+    within-requires
+    array-borrow-prefix-lent
+    slice-aggregate-read-into
+    read-into-requires
+    same-length
+    returns)

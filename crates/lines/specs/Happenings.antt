@@ -1,0 +1,139 @@
+-- The machine's commands: the number of an event, with what `byte` and `close` give beside it; `fresh`; `ledger`.
+-- Each makes of a machine and a page a machine and a page.
+use Prim.Native.Nat.{ℕ}
+use mathlib.Core.Bool.{Bool, true, false, cond}
+use mathlib.Core.List.{List}
+use lib.Dec.{eqb}
+use Rattle.figures.specs.Page.{Page, letters, _▹_}
+use Rattle.figures.specs.Digits.{decimal, pair}
+use Rattle.figures.specs.declared.Number.{Number}
+use Rattle.figures.specs.declared.Number.the-variants as number
+use Rattle.commands.specs.declared.Two.{Two}
+use Rattle.commands.specs.declared.Two.the-variants as two
+use Rattle.commands.specs.declared.Three.{Three}
+use Rattle.commands.specs.declared.Three.the-variants as three
+use Rattle.commands.specs.Arguments.{both}
+use Rattle.paper.specs.Numbers.{done}
+use Rattle.machine.specs.declared.Closing.{Closing}
+use Rattle.machine.specs.declared.Codes.{Codes}
+use Rattle.machine.specs.declared.Given.{Given}
+use Rattle.machine.specs.declared.Machine.{Machine}
+use Rattle.machine.specs.declared.Outcome.{Outcome}
+use Rattle.machine.specs.declared.Tally.{Tally}
+use Rattle.machine.specs.Counts as counts
+use Rattle.machine.specs.Events as ev
+use Rattle.machine.specs.State as state
+use Rattle.lines.specs.declared.Answered.{Answered}
+use Rattle.lines.specs.Phrases.{refused, bit, buffered}
+use Rattle.lines.specs.Words as words
+use Rattle.lines.specs.Words.{octet, count, lentOf}
+
+abbrev pub stayed : Machine → ℕ → Answered
+stayed m at = record { machine = m; at = at }
+
+-- ---- fresh, fresh N
+
+unfoldable pub fresh : Page → Machine × Page
+fresh p = (state.fresh, p ▹ decimal done)
+
+abbrev pub freshCounted : Number → Machine → Page → Machine × Page
+freshCounted (number.Refused reason) m p = (m, refused reason p)
+freshCounted (number.Value n) m p = (state.freshAfter (count n), p ▹ decimal done)
+
+unfoldable pub freshAfter : List ℕ → Machine → Page → Machine × Page
+freshAfter line m p = freshCounted (words.decimal 1 line) m p
+
+-- ---- power, copied, wake, write REG VALUE, finish T P H, open ADDR
+
+unfoldable pub outcomeTold : Outcome → Page → Machine × Page
+outcomeTold o p = (o .machine, p ▹ decimal (o .answer))
+
+unfoldable pub power : Machine → Page → Machine × Page
+power m p = outcomeTold (ev.powered m) p
+
+unfoldable pub copied : Machine → Page → Machine × Page
+copied m p = outcomeTold (ev.copyingEnded m) p
+
+unfoldable pub wake : Machine → Page → Machine × Page
+wake m p = outcomeTold (ev.woken m) p
+
+abbrev pub writeRead : Two → Machine → Page → Machine × Page
+writeRead (two.Refused reason) m p = (m, refused reason p)
+writeRead (two.Values register value) m p = outcomeTold (ev.written m (octet register) (octet value)) p
+
+unfoldable pub write : List ℕ → Machine → Page → Machine × Page
+write line m p = writeRead (both (words.pair 1 line) (words.pair 2 line)) m p
+
+abbrev pub finishRead : Three → Machine → Page → Machine × Page
+finishRead (three.Refused reason) m page = (m, refused reason page)
+finishRead (three.Values t p h) m page = outcomeTold (ev.finished m (count t) (count p) (count h)) page
+
+unfoldable pub finish : List ℕ → Machine → Page → Machine × Page
+finish line m p = finishRead (words.decimals 1 2 3 line) m p
+
+abbrev pub openRead : Number → Machine → Page → Machine × Page
+openRead (number.Refused reason) m p = (m, refused reason p)
+openRead (number.Value n) m p = outcomeTold (ev.opened m (octet n)) p
+
+unfoldable pub opening : List ℕ → Machine → Page → Machine × Page
+opening line m p = openRead (words.pair 1 line) m p
+
+-- ---- byte: `0 XX`
+
+unfoldable pub givenTold : Given → Page → Machine × Page
+givenTold g p = (
+  g .machine,
+  cond (eqb (g .answer) done) (p ▹ decimal (g .answer) ▹ letters " " ▹ pair (g .value)) (p ▹ decimal (g .answer)),
+)
+
+unfoldable pub byte : Machine → Page → Machine × Page
+byte m p = givenTold (ev.byteGiven m) p
+
+-- ---- close LEN: `0 whole n=NUMBER codes=T,P,H before=0 buf=..`, or `partial`; `N buf=..`
+
+abbrev pub wholeTold : Bool → Page → Page
+wholeTold true p = p ▹ letters " whole"
+wholeTold false p = p ▹ letters " partial"
+
+unfoldable pub codesTold : Codes → Page → Page
+codesTold c p =
+    p ▹ letters " codes=" ▹ decimal (c .temperature) ▹ letters "," ▹ decimal (c .pressure) ▹ letters ","
+    ▹ decimal (c .humidity)
+
+unfoldable pub closingTold : Closing → Page → Page
+closingTold c p =
+    cond (eqb (c .answer) done)
+    (codesTold (c .codes) (wholeTold (c .whole) (p ▹ decimal (c .answer)) ▹ letters " n=" ▹ decimal (c .number))
+    ▹ letters " before=" ▹ bit (c .delivered))
+    (p ▹ decimal (c .answer))
+
+unfoldable pub closedTold : Closing × List ℕ → Page → Machine × Page
+closedTold c p = (c .0 .machine, buffered (c .1) (closingTold (c .0) p))
+
+unfoldable pub closeInto : Machine → List ℕ → Page → Machine × Page
+closeInto m lent p = closedTold (ev.closed m lent) p
+
+unfoldable pub closeWith : ℕ → Machine → Page → Machine × Page
+closeWith length m p = closeInto m (lentOf length) p
+
+abbrev pub closeRead : Number → Machine → Page → Machine × Page
+closeRead (number.Refused reason) m p = (m, refused reason p)
+closeRead (number.Value n) m p = closeWith n m p
+
+unfoldable pub close : List ℕ → Machine → Page → Machine × Page
+close line m p = closeRead (words.length 1 line) m p
+
+-- ---- ledger
+
+unfoldable pub countsTold : Tally → Page → Page
+countsTold t p =
+    p ▹ letters "begun=" ▹ decimal (t .ledger .begun) ▹ letters " delivered=" ▹ decimal (t .ledger .delivered)
+    ▹ letters " overwritten=" ▹ decimal (t .ledger .overwritten) ▹ letters " abandoned=" ▹ decimal (t .ledger .abandoned)
+    ▹ letters " standing=" ▹ decimal (t .ledger .standing)
+
+unfoldable pub standingTold : Tally → Page → Page
+standingTold t p =
+    p ▹ letters " running=" ▹ bit (t .running) ▹ letters " waiting=" ▹ bit (t .waiting) ▹ letters " shown=" ▹ bit (t .unread)
+
+unfoldable pub ledger : Machine → Page → Machine × Page
+ledger m p = (m, standingTold (counts.tallied m) (countsTold (counts.tallied m) p))

@@ -1,0 +1,2 @@
+-- What the library hands to C.
+pub mod Lent

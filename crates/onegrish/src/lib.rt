@@ -1,0 +1,158 @@
+// The library for C: numbers and lent slices alone. include/onegrish.h declares these functions.
+// Each answers the paper's number, and nothing is written but on 0.
+ghost use mathlib.Core.Path.{_≡_};
+ghost use Rattle.calibration.specs.Calibration.{calibrated};
+ghost use Rattle.compensation.specs.Compensation.{compensated};
+ghost use Rattle.waiting.specs.Waiting.{maximum, typical, waited};
+ghost use Rattle.waiting.specs.Polling.{polled};
+ghost use Rattle.bus.specs.declared.Bus.the-variants.{I2c, Spi};
+ghost use Rattle.bus.specs.declared.Device.the-variants.{At, Selected};
+ghost use Rattle.bus.specs.Writing.{encodedWrite, decodedWrite};
+ghost use Rattle.bus.specs.Reading.{encodedRead};
+ghost use Rattle.onegrish.specs.Lent as into;
+
+mod messages; // bus bytes
+mod readings; // words, channels
+mod times; // waiting and polling
+
+use bus::Bus;
+use bus::Device;
+
+// The 18 words T1 to T3, P1 to P9, H1 to H6 of the two calibration blocks, at the front of `words`.
+// 2 for blocks that are not 26 and 7 bytes long, then 9 for fewer than 18 places.
+#[no_mangle]
+pub extern "C" fn onegrish_words(one: &[u8], two: &[u8], words: &mut [i32]) -> u8
+    ensures { λ r. ⌜ (r, now (words .exit)) ≡ into.wordsInto (calibrated (now (one .entry)) (now (two .entry))) (now (words .entry)) ⌝ }
+{
+    readings::hand_words(calibration::calibrate(one, two), words)
+}
+
+// One reading: its channels' numbers at the front of `numbers`, and at the front of `values` the temperature, the fine
+// temperature, the pressure and the humidity. A channel whose number is not 0 leaves its places in `values` as they were.
+// 2 for lengths, 7 for codes, then 9 for fewer than 3 numbers or 4 values.
+#[no_mangle]
+pub extern "C" fn onegrish_compensate(
+    one: &[u8],
+    two: &[u8],
+    bytes: &[u8],
+    t: u8,
+    p: u8,
+    h: u8,
+    numbers: &mut [u8],
+    values: &mut [i64],
+) -> u8
+    ensures { λ r. ⌜ (r, now (numbers .exit), now (values .exit)) ≡ into.readingInto (compensated (now (one .entry)) (now (two .entry)) (now (bytes .entry)) t p h) (now (numbers .entry)) (now (values .entry)) ⌝ }
+{
+    readings::hand_reading(
+        compensation::compensate(one, two, bytes, t, p, h),
+        numbers,
+        values,
+    )
+}
+
+// The microseconds that a conversion takes at most.
+// 7 for a code above 7.
+#[no_mangle]
+pub extern "C" fn onegrish_maximum_wait(t: u8, p: u8, h: u8, microseconds: &mut u32) -> u8
+    ensures { λ r. ⌜ (r, now (microseconds .exit)) ≡ into.numberInto (waited maximum t p h) (now (microseconds .entry)) ⌝ }
+{
+    times::hand_wait(waiting::maximum_wait(t, p, h), microseconds)
+}
+
+// The microseconds that a conversion typically takes.
+// 7 for a code above 7.
+#[no_mangle]
+pub extern "C" fn onegrish_typical_wait(t: u8, p: u8, h: u8, microseconds: &mut u32) -> u8
+    ensures { λ r. ⌜ (r, now (microseconds .exit)) ≡ into.numberInto (waited typical t p h) (now (microseconds .entry)) ⌝ }
+{
+    times::hand_wait(waiting::typical_wait(t, p, h), microseconds)
+}
+
+// The place of the first ready status byte.
+// 17 where none is ready before the bytes or the allowance run out.
+#[no_mangle]
+pub extern "C" fn onegrish_poll(status: &[u8], allowance: usize, place: &mut usize) -> u8
+    ensures { λ r. ⌜ (r, now (place .exit)) ≡ into.placeInto (polled (now (status .entry)) allowance) (now (place .entry)) ⌝ }
+{
+    times::hand_place(waiting::poll(status, allowance), place)
+}
+
+// How many polls that took, whether a byte was ready or not.
+#[no_mangle]
+pub extern "C" fn onegrish_polls(status: &[u8], allowance: usize) -> usize
+    ensures { λ r. ⌜ r ≡ into.pollsOf (polled (now (status .entry)) allowance) ⌝ }
+{
+    times::polls_made(waiting::poll(status, allowance))
+}
+
+// The I2C message that writes the pairs to the device at `address`, at the front of `lent`, and its length.
+// 4 for the device address, 15, 4 for registers, 9.
+#[no_mangle]
+pub extern "C" fn onegrish_i2c_write(
+    address: u8,
+    pairs: &[u8],
+    lent: &mut [u8],
+    length: &mut usize,
+) -> u8
+    ensures { λ r. ⌜ (r, now (length .exit), now (lent .exit)) ≡ into.bytesInto (encodedWrite (At address) (now (pairs .entry)) (now (lent .entry))) (now (length .entry)) ⌝ }
+{
+    messages::hand_length(bus::encode_write(Device::At(address), pairs, lent), length)
+}
+
+// The SPI message that writes the pairs, at the front of `lent`, and its length.
+// 15, 4 for registers, 9.
+#[no_mangle]
+pub extern "C" fn onegrish_spi_write(pairs: &[u8], lent: &mut [u8], length: &mut usize) -> u8
+    ensures { λ r. ⌜ (r, now (length .exit), now (lent .exit)) ≡ into.bytesInto (encodedWrite Selected (now (pairs .entry)) (now (lent .entry))) (now (length .entry)) ⌝ }
+{
+    messages::hand_length(bus::encode_write(Device::Selected, pairs, lent), length)
+}
+
+// Both messages of an I2C read of a register, at the front of `lent`, and their length.
+// 4 for the device address, 4 for the register, 9.
+#[no_mangle]
+pub extern "C" fn onegrish_i2c_read(
+    address: u8,
+    register: u8,
+    lent: &mut [u8],
+    length: &mut usize,
+) -> u8
+    ensures { λ r. ⌜ (r, now (length .exit), now (lent .exit)) ≡ into.bytesInto (encodedRead (At address) register (now (lent .entry))) (now (length .entry)) ⌝ }
+{
+    messages::hand_length(
+        bus::encode_read(Device::At(address), register, lent),
+        length,
+    )
+}
+
+// The SPI message that reads a register, at the front of `lent`, and its length.
+// 4 for the register, 9.
+#[no_mangle]
+pub extern "C" fn onegrish_spi_read(register: u8, lent: &mut [u8], length: &mut usize) -> u8
+    ensures { λ r. ⌜ (r, now (length .exit), now (lent .exit)) ≡ into.bytesInto (encodedRead Selected register (now (lent .entry))) (now (length .entry)) ⌝ }
+{
+    messages::hand_length(bus::encode_read(Device::Selected, register, lent), length)
+}
+
+// The pairs that an I2C write carries, at the front of `lent`, with the device's address and the pairs' length.
+// 16, 15, 4, 9.
+#[no_mangle]
+pub extern "C" fn onegrish_i2c_decode(
+    bytes: &[u8],
+    lent: &mut [u8],
+    address: &mut u8,
+    length: &mut usize,
+) -> u8
+    ensures { λ r. ⌜ (r, now (address .exit), now (length .exit), now (lent .exit)) ≡ into.pairsInto (decodedWrite I2c (now (bytes .entry)) (now (lent .entry))) (now (address .entry)) (now (length .entry)) ⌝ }
+{
+    messages::hand_pairs(bus::decode_write(Bus::I2c, bytes, lent), address, length)
+}
+
+// The pairs that an SPI write carries, at the front of `lent`, and their length.
+// 16, 15, 4, 9.
+#[no_mangle]
+pub extern "C" fn onegrish_spi_decode(bytes: &[u8], lent: &mut [u8], length: &mut usize) -> u8
+    ensures { λ r. ⌜ (r, now (length .exit), now (lent .exit)) ≡ into.bytesInto (decodedWrite Spi (now (bytes .entry)) (now (lent .entry))) (now (length .entry)) ⌝ }
+{
+    messages::hand_pairs_length(bus::decode_write(Bus::Spi, bytes, lent), length)
+}

@@ -1,0 +1,56 @@
+-- What an answer hands back, as figures: the paper's number, and then the values, where there are any.
+use Prim.Native.Nat.{ℕ}
+use mathlib.Core.Bool.{Bool, true, false}
+use mathlib.Core.List.{List, [], _∷_, _++_}
+use lib.IntN.{ℤ, pos}
+use Rattle.paper.specs.Numbers as no
+use Rattle.paper.specs.Answers.{Answer}
+use Rattle.formulas.specs.declared.TemperatureAnswer.{TemperatureAnswer}
+use Rattle.formulas.specs.declared.TemperatureAnswer.the-variants as heat
+use Rattle.formulas.specs.declared.PressureAnswer.{PressureAnswer}
+use Rattle.formulas.specs.declared.PressureAnswer.the-variants as press
+use Rattle.formulas.specs.declared.HumidityAnswer.{HumidityAnswer}
+use Rattle.formulas.specs.declared.HumidityAnswer.the-variants as damp
+use Rattle.compensation.specs.declared.Reading.{Reading}
+use Rattle.machine.specs.declared.Closing.{Closing}
+use Rattle.machine.specs.declared.Ledger.{Ledger}
+
+abbrev pub ofTemperature : TemperatureAnswer → List ℤ
+ofTemperature (heat.Known value fine) = pos no.done ∷ value ∷ []
+ofTemperature (heat.Missing n) = pos n ∷ []
+
+-- the fine temperature, which is absent where the temperature is
+abbrev pub ofFine : TemperatureAnswer → List ℤ
+ofFine (heat.Known value fine) = fine ∷ []
+ofFine (heat.Missing n) = []
+
+abbrev pub ofPressure : PressureAnswer → List ℤ
+ofPressure (press.Known value) = pos no.done ∷ pos value ∷ []
+ofPressure (press.Missing n) = pos n ∷ []
+
+abbrev pub ofHumidity : HumidityAnswer → List ℤ
+ofHumidity (damp.Known value) = pos no.done ∷ pos value ∷ []
+ofHumidity (damp.Missing n) = pos n ∷ []
+
+abbrev pub ofReading : Reading → List ℤ
+ofReading r = ofTemperature (r .temperature) ++ (ofPressure (r .pressure) ++ ofHumidity (r .humidity))
+
+-- numbers that are never negative
+abbrev pub ofNumbers : List ℕ → List ℤ
+ofNumbers [] = []
+ofNumbers (n ∷ ns) = pos n ∷ ofNumbers ns
+
+abbrev pub ofAnswer : Answer → List ℤ
+ofAnswer a = ofNumbers (a .number ∷ a .values)
+
+-- whether it was whole, and the number shown
+abbrev pub bit : Bool → ℕ
+bit true = 1
+bit false = 0
+
+abbrev pub ofClosing : Closing → List ℤ
+ofClosing c = ofNumbers (c .answer ∷ bit (c .whole) ∷ c .number ∷ [])
+
+-- begun, delivered, overwritten, abandoned, standing
+abbrev pub ofLedger : Ledger → List ℤ
+ofLedger l = ofNumbers (l .begun ∷ l .delivered ∷ l .overwritten ∷ l .abandoned ∷ l .standing ∷ [])

@@ -1,0 +1,124 @@
+-- The bench sheet of exact results: K1 to K14 as one table, and one theorem over it.
+use Prim.Native.Nat.{ℕ}
+use mathlib.Core.Path.{_≡_}
+use mathlib.Core.List.{List, [], _∷_, _++_, List·Memᴰ}
+use lib.IntN.{ℤ, pos, negsuc}
+use Rattle.steps.specs.declared.Signed.the-variants.{Bits64}
+use Rattle.steps.specs.declared.Num.{Num}
+use Rattle.steps.specs.declared.Num.the-variants.{Value, Broke}
+use Rattle.steps.specs.Step.{onValue, onValues}
+use Rattle.steps.specs.Work.{Work, given, share, run, _+_, _<<_, _>>_}
+use Rattle.calibration.specs.declared.PressureWords.{PressureWords}
+use Rattle.calibration.specs.declared.HumidityWords.{HumidityWords}
+use Rattle.calibration.specs.declared.Words.{Words}
+use Rattle.calibration.specs.Calibration.{humidityWords}
+use Rattle.formulas.specs.declared.TemperatureAnswer.{TemperatureAnswer}
+use Rattle.formulas.specs.declared.TemperatureAnswer.the-variants as heat
+use Rattle.formulas.specs.Temperature as t
+use Rattle.formulas.specs.Pressure as p
+use Rattle.formulas.specs.Humidity as h
+use Rattle.compensation.specs.Compensation.{pressureAt, humidityAt, reading}
+use Rattle.waiting.specs.Waiting as w
+use Rattle.waiting.specs.Polling as poll
+use Rattle.bus.specs.declared.Device.the-variants.{At, Selected}
+use Rattle.bus.specs.Pairs.{withRegisters}
+use Rattle.bus.specs.Writing.{message}
+use Rattle.machine.specs.Bench.{k12, k13}
+use Rattle.machine.specs.Control.{effect, heldEffect}
+use Rattle.machine.specs.Data.{stored}
+use Rattle.machine.specs.Events.{showing, keeping, delivering, waitingShown}
+use Rattle.sheet.specs.Row.{Row, each}
+use Rattle.sheet.specs.Figures.{ofTemperature, ofFine, ofPressure, ofHumidity, ofReading, ofAnswer, ofNumbers}
+use Rattle.sheet.specs.Walks.{afterClose}
+
+abbrev k : ℕ → List ℤ → List ℤ → Row
+k n defined printed = record { name = n; defined = defined; printed = printed }
+
+abbrev ofNum : Num → List ℤ
+ofNum (Value z) = pos 0 ∷ z ∷ []
+ofNum (Broke n) = pos n ∷ []
+
+-- ---- the chips of the sheet
+
+abbrev heat1 : TemperatureAnswer
+heat1 = t.temperatureOf (record { t1 = 27504; t2 = pos 26435; t3 = negsuc 999 }) 519888
+
+abbrev pressureWords : ℕ → PressureWords
+pressureWords p1 = record {
+  p1 = p1;
+  p2 = negsuc 10684;
+  p3 = pos 3024;
+  p4 = pos 2855;
+  p5 = pos 140;
+  p6 = negsuc 6;
+  p7 = pos 15500;
+  p8 = negsuc 14599;
+  p9 = pos 6000;
+}
+
+abbrev heat3 : ℕ → TemperatureAnswer
+heat3 count = t.temperatureOf (record { t1 = 0; t2 = pos 1; t3 = pos 0 }) count
+
+abbrev heat5 : TemperatureAnswer
+heat5 = t.temperatureOf (record { t1 = 0; t2 = pos 2048; t3 = pos 0 }) 614400
+
+abbrev humidity5 : ℤ → ℕ → List ℤ
+humidity5 h4 count =
+    ofHumidity (humidityAt heat5 (record { h1 = 75; h2 = pos 362; h3 = 0; h4 = h4; h5 = pos 0; h6 = pos 0 }) count)
+
+abbrev words8 : HumidityWords
+words8 = humidityWords [] (0 ∷ 0 ∷ 0 ∷ 0xFF ∷ 0x1F ∷ 0x80 ∷ 0 ∷ [])
+
+abbrev chip14 : Words
+chip14 = record {
+  temperature = record { t1 = 27504; t2 = pos 26435; t3 = negsuc 999 };
+  pressure = pressureWords 36477;
+  humidity = words8;
+}
+
+-- K2 with the last line as it is printed without the bracket
+unfoldable pub unbracketedLine : PressureWords → ℤ → ℤ → ℤ → Work
+unbracketedLine words q var1 var2 = (given q + given var1 + given var2 >> 8) + given (words .p7) << 4
+
+abbrev ofUnbracketed : TemperatureAnswer → PressureWords → ℕ → List ℤ
+ofUnbracketed (heat.Missing n) words count = pos n ∷ []
+ofUnbracketed (heat.Known value fine) words count =
+    ofNum
+    (run Bits64
+    (share (p.differenceLine fine) λ difference.
+    share (p.offsetLines words difference) λ var2.
+    share (p.divisorLines words difference) λ var1.
+    share (p.quotientLines count var2 var1) λ q.
+    share (p.curveLine words q) λ var1.
+    share (p.slopeLine words q) λ var2.
+    unbracketedLine words q var1 var2))
+
+-- ---- the table
+
+unfoldable pub sheet : List Row
+sheet =
+    k 1 (ofFine heat1 ++ ofTemperature heat1) (pos 128422 ∷ pos 0 ∷ pos 2508 ∷ [])
+    ∷ k 2 (ofPressure (pressureAt heat1 (pressureWords 36477) 415148)) (pos 0 ∷ pos 25767233 ∷ [])
+    ∷ k 2 (ofUnbracketed heat1 (pressureWords 36477) 415148) (pos 0 ∷ pos 408555728 ∷ [])
+    ∷ k 3 (ofTemperature (heat3 741455)) (pos 0 ∷ pos 1 ∷ [])
+    ∷ k 3 (ofTemperature (heat3 741456)) (pos 12 ∷ [])
+    ∷ k 4 (ofPressure (pressureAt heat1 (pressureWords 0) 415148)) (pos 13 ∷ [])
+    ∷ k 5 (ofFine heat5 ++ humidity5 (pos 0) 8192) (pos 76800 ∷ pos 0 ∷ pos 46036 ∷ [])
+    ∷ k 6 (humidity5 (pos 0) 32768) (pos 0 ∷ pos 102400 ∷ [])
+    ∷ k 7 (humidity5 (pos 1) 0) (pos 0 ∷ pos 0 ∷ [])
+    ∷ k 8 (words8 .h4 ∷ words8 .h5 ∷ []) (negsuc 0 ∷ negsuc 2046 ∷ [])
+    ∷ k 9 (ofAnswer (w.waited w.maximum 0 0 0)) (pos 0 ∷ pos 1250 ∷ [])
+    ∷ k 9 (ofAnswer (w.waited w.maximum 1 1 1)) (pos 0 ∷ pos 9300 ∷ [])
+    ∷ k 9 (ofAnswer (w.waited w.maximum 5 5 5)) (pos 0 ∷ pos 112800 ∷ [])
+    ∷ k 10 (ofNumbers (message (At 0x76) (0xF4 ∷ 0x27 ∷ []))) (pos 0xEC ∷ pos 0xF4 ∷ pos 0x27 ∷ [])
+    ∷ k 10 (ofNumbers (message Selected (0xF4 ∷ 0x27 ∷ []))) (pos 0x74 ∷ pos 0x27 ∷ [])
+    ∷ k 11 (ofAnswer (poll.polled (0x08 ∷ 0x09 ∷ 0x00 ∷ []) 3)) (pos 0 ∷ pos 2 ∷ pos 3 ∷ [])
+    ∷ k 11 (ofAnswer (poll.polled (0x08 ∷ 0x09 ∷ 0x00 ∷ []) 2)) (pos 17 ∷ pos 2 ∷ [])
+    ∷ k 12 (afterClose k12) (pos 0 ∷ pos 1 ∷ pos 1 ∷ pos 2 ∷ pos 1 ∷ pos 0 ∷ pos 0 ∷ pos 1 ∷ [])
+    ∷ k 13 (afterClose k13) (pos 0 ∷ pos 0 ∷ pos 0 ∷ pos 2 ∷ pos 0 ∷ pos 1 ∷ pos 0 ∷ pos 1 ∷ [])
+    ∷ k 14 (ofReading (reading chip14 (record { temperature = 519888; pressure = 415148; humidity = 0 }) 0 1 0)) (pos 10 ∷ pos 11 ∷ pos 10 ∷ [])
+    ∷ []
+
+pub sheet-holds : (r : Row) → List·Memᴰ r sheet → r .defined ≡ r .printed
+unfolding sheet run onValue onValues t.slopeLine t.curveLine t.fineLines t.degreesLine t.temperatureOf p.differenceLine p.offsetLines p.divisorLines p.quotientLines p.curveLine p.slopeLine p.lastLine p.refinedLines p.pressureLines p.pressureFormula p.pressureOf unbracketedLine h.differenceLine h.levelFactor h.bendFactor h.gainFactor h.productLine h.correctionLine h.humidityLines h.lastLine h.humidityFormula h.humidityOf w.samples w.channelPart w.microseconds w.waited poll.firstReady poll.polled message withRegisters effect heldEffect stored showing keeping delivering waitingShown
+sheet-holds = each sheet tt

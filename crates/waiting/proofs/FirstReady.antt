@@ -1,0 +1,100 @@
+-- What polling finds: the place given is ready and no earlier one is; where it gives 17, none of those polled is.
+use Prim.Native.Nat.{ℕ, zero, suc, _+_, _≤_, _<_}
+use native.Mathlib.Omega.{arith}
+use lib.Dec.{ltb}
+use lib.ListN.{length, getD, take}
+use lib.Seq.{getD-take, length-take-le}
+use borrow.Author.Tests.{ltb-true, ltb-false}
+use mathlib.Core.Bool.{true, false}
+use mathlib.Core.List.{List, [], _∷_}
+use mathlib.Core.Path.{_≡_, sym}
+use Rattle.laws.specs.Choices.{pick}
+use Rattle.paper.specs.Answers.{Answer, given}
+use Rattle.paper.proofs.Answers.{same-number, same-values}
+use Rattle.waiting.specs.Polling.{isReady, firstReady, limit, place, never, polled}
+
+-- ---- the first ready byte of a list
+
+first-within : (s : List ℕ) → firstReady s ≤ length s
+unfolding firstReady
+first-within [] = omega arith
+first-within (b ∷ s) = pick (λ n. n ≤ suc (length s)) (isReady b) (λ e. omega arith) (λ e. omega (arith, first-within s))
+
+first-is-ready : (s : List ℕ) → firstReady s < length s → isReady (getD s (firstReady s) 0) ≡ true
+unfolding firstReady
+first-is-ready [] h = absurd (omega arith)
+first-is-ready (b ∷ s) h =
+    pick (λ n. n < suc (length s) → isReady (getD (b ∷ s) n 0) ≡ true) (isReady b)
+    (λ e g. e) (λ e g. first-is-ready s (omega arith)) h
+
+earlier-is-not : (s : List ℕ) (k : ℕ) → k < firstReady s → isReady (getD s k 0) ≡ false
+unfolding firstReady
+earlier-is-not [] k h = absurd (omega arith)
+earlier-is-not (b ∷ s) zero h = pick (λ n. 0 < n → isReady b ≡ false) (isReady b) (λ e g. absurd (omega arith)) (λ e g. e) h
+earlier-is-not (b ∷ s) (suc k) h =
+    pick (λ n. suc k < n → isReady (getD s k 0) ≡ false) (isReady b)
+    (λ e g. absurd (omega arith)) (λ e g. earlier-is-not s k (omega arith)) h
+
+-- ---- among the bytes polled
+
+module _ (status : List ℕ) (allowance : ℕ) where
+  abbrev polledBytes : List ℕ
+  polledBytes = take (limit status allowance) status
+
+  as-many : length polledBytes ≡ limit status allowance
+  as-many = length-take-le (limit status allowance) status (omega arith)
+
+  same-byte : (k : ℕ) → k < limit status allowance → getD polledBytes k 0 ≡ getD status k 0
+  same-byte k h = getD-take (limit status allowance) status k 0 h
+
+  place-is-ready : place status allowance < limit status allowance → isReady (getD status (place status allowance) 0) ≡ true
+  place-is-ready h = rw (same-byte (place status allowance) h) at (first-is-ready polledBytes (rw as-many h))
+
+  before-place : (k : ℕ) → k < place status allowance → isReady (getD status k 0) ≡ false
+  before-place k h =
+      let g : k < limit status allowance = omega (arith, first-within polledBytes, as-many) in
+      rw (same-byte k g) at (earlier-is-not polledBytes k h)
+
+-- ---- the two answers
+
+-- a place: it is among those allowed, that byte is ready, none before it is, and the polls are one more
+pub record Found (status : List ℕ) (allowance at polls : ℕ) : Type 0 where
+  pub counted : polls ≡ at + 1
+  pub allowed : polls ≤ limit status allowance
+  pub ready : isReady (getD status at 0) ≡ true
+  pub first : (k : ℕ) → k < at → isReady (getD status k 0) ≡ false
+
+-- none: as many polls as both limits allow, and none of those bytes is ready
+pub record NeverReady (status : List ℕ) (allowance polls : ℕ) : Type 0 where
+  pub counted : polls ≡ limit status allowance
+  pub none : (k : ℕ) → k < polls → isReady (getD status k 0) ≡ false
+
+pub given-found : (status : List ℕ) (allowance at polls : ℕ) → polled status allowance ≡ given (at ∷ polls ∷ []) → Found status allowance at polls
+unfolding polled
+given-found status allowance at polls =
+    pick (λ (answer : Answer). answer ≡ given (at ∷ polls ∷ []) → Found status allowance at polls)
+    (ltb (place status allowance) (limit status allowance))
+    (λ e a.
+    let h : place status allowance < limit status allowance = ltb-true _ _ e in
+    let v = same-values a in
+    let p : place status allowance ≡ at = cc in
+    let q : place status allowance + 1 ≡ polls = cc in
+    record {
+      counted = omega arith;
+      allowed = omega arith;
+      ready = rw p at (place-is-ready status allowance h);
+      first = rw p at (before-place status allowance);
+    })
+    (λ e a. absurd (omega (arith, same-number a)))
+
+pub never-none : (status : List ℕ) (allowance polls : ℕ) → polled status allowance ≡ never polls → NeverReady status allowance polls
+unfolding polled
+never-none status allowance polls =
+    pick (λ (answer : Answer). answer ≡ never polls → NeverReady status allowance polls)
+    (ltb (place status allowance) (limit status allowance))
+    (λ e a. absurd (omega (arith, same-number a)))
+    (λ e a.
+    let h : limit status allowance ≤ place status allowance = ltb-false _ _ e in
+    let v = same-values a in
+    let q : limit status allowance ≡ polls = cc in
+    record { counted = sym q; none = λ k g. before-place status allowance k (omega arith) })

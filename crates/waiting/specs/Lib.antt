@@ -1,0 +1,3 @@
+-- Waiting and polling: what the crate's promises cite.
+pub mod Waiting
+pub mod Polling

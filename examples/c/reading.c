@@ -1,0 +1,35 @@
+/* Prints one compensated reading: the chip and the counts of K1 and K2 of the bench sheet, humidity skipped.
+ * examples/c/build builds and runs it. */
+#include <stdio.h>
+
+#include "onegrish.h"
+
+static const uint8_t one[26] = {
+    0x70, 0x6B, 0x43, 0x67, 0x18, 0xFC, 0x7D, 0x8E, 0x43, 0xD6, 0xD0, 0x0B, 0x27,
+    0x0B, 0x8C, 0x00, 0xF9, 0xFF, 0x8C, 0x3C, 0xF8, 0xC6, 0x70, 0x17, 0x00, 0x00,
+};
+static const uint8_t two[7] = {0};
+static const uint8_t bytes[8] = {0x65, 0x5A, 0xC0, 0x7E, 0xED, 0x00, 0x80, 0x00};
+
+int main(void) {
+    uint8_t numbers[3];
+    int64_t values[4];
+    uint8_t answer = onegrish_compensate(one, 26, two, 7, bytes, 8, 1, 1, 0, numbers, 3, values, 4);
+    if (answer != 0) {
+        printf("refused with %u\n", answer);
+        return 1;
+    }
+    if (numbers[0] == 0)
+        printf("temperature %.2f degrees\n", (double)values[0] / 100);
+    else
+        printf("temperature missing: %u\n", numbers[0]);
+    if (numbers[1] == 0)
+        printf("pressure %.3f Pa\n", (double)values[2] / 256);
+    else
+        printf("pressure missing: %u\n", numbers[1]);
+    if (numbers[2] == 0)
+        printf("humidity %.3f %%RH\n", (double)values[3] / 1024);
+    else
+        printf("humidity missing: %u\n", numbers[2]);
+    return 0;
+}
