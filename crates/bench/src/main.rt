@@ -25,26 +25,40 @@ fn make_room(out: &[u8], at: usize) -> usize {
     0
 }
 
-// Answers the lines that a block ends, and holds what it has of the next.
-fn answer_block(kept: Bench, block: &[u8], line: &mut [u8], out: &mut [u8]) -> Bench {
-    let mut machine = kept.machine;
-    let mut held = kept.held;
-    let mut at = kept.at;
+// Answers the line that is held.
+fn answer_line(kept: Bench, line: &[u8], out: &mut [u8]) -> Bench {
+    let machine = kept.machine;
+    let done = lines::answer(figures::front(line, kept.held), machine, out, kept.at);
+    let next = done.machine;
+    Bench {
+        machine: next,
+        held: 0,
+        at: make_room(out, done.at),
+    }
+}
+
+// Takes one byte of the input: a newline ends the line that is held, and any other byte is held.
+fn take_byte(kept: Bench, byte: u8, line: &mut [u8], out: &mut [u8]) -> Bench {
+    if byte == b'\n' {
+        return answer_line(kept, line, out);
+    }
+    let machine = kept.machine;
+    Bench {
+        machine,
+        held: figures::write_byte(byte, line, kept.held),
+        at: kept.at,
+    }
+}
+
+// Takes a block byte by byte.
+fn answer_block(first: Bench, block: &[u8], line: &mut [u8], out: &mut [u8]) -> Bench {
+    let mut kept = first;
     let mut i = 0;
     while i < block.len() {
-        let byte = block[i];
-        if byte == b'\n' {
-            let done = lines::answer(figures::front(line, held), machine, out, at);
-            let next = done.machine;
-            machine = next;
-            at = make_room(out, done.at);
-            held = 0;
-        } else {
-            held = figures::write_byte(byte, line, held);
-        }
+        kept = take_byte(kept, block[i], line, out);
         i += 1;
     }
-    Bench { machine, held, at }
+    kept
 }
 
 // What is left after a read: whether there may be more, and what is kept.
@@ -85,9 +99,8 @@ fn take_blocks(first: Bench, line: &mut [u8], out: &mut [u8]) -> Bench {
 
 // Answers a last line that lacks its newline, and writes out what is left of the page.
 fn finish(kept: Bench, line: &[u8], out: &mut [u8]) {
-    let machine = kept.machine;
-    let done = lines::answer(figures::front(line, kept.held), machine, out, kept.at);
-    io::write_all(STDOUT_FILENO, figures::front(out, done.at));
+    let last = answer_line(kept, line, out);
+    io::write_all(STDOUT_FILENO, figures::front(out, last.at));
 }
 
 fn main() {

@@ -1,7 +1,7 @@
 // Where the words of a line begin and end.
 ghost use mathlib.Core.Path.{_≡_};
 ghost use Prim.Native.Nat.{_-_, _≤_};
-ghost use lib.ListN.{length, take, drop};
+ghost use lib.ListN.{length, drop};
 ghost use Rattle.commands.specs.Words as words;
 
 // How many words a line has: one more than spaces.

@@ -4,10 +4,10 @@ use native.Mathlib.Omega.{arith}
 use native.Mathlib.Numerals.{add-one}
 use borrow.Author.Tests.{lt-ltb}
 use mathlib.Core.List.{List, [], _∷_, _++_}
-use mathlib.Core.Path.{_≡_, refl, ap, _∙_}
+use mathlib.Core.Path.{_≡_, ap, _∙_}
 use lib.ListN.{length, take, drop, set, length-set}
 use lib.Seq.{sets, sets-eq}
-use Rattle.figures.specs.Page.{Page, writtenByte, written}
+use Rattle.figures.specs.Page.{writtenByte, written}
 
 one : (b at : ℕ) (xs : List ℕ) → at < length xs → writtenByte b (xs, at) ≡ (set xs at b, at + 1)
 unfolding writtenByte

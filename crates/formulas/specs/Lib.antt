@@ -1,4 +1,4 @@
--- The maker's three formulas and their answers, their theorems, and what the plain road knows.
+-- The maker's three formulas and their answers, exact; and the ranges in which the plain road is taken.
 pub mod Temperature
 pub mod Pressure
 pub mod Humidity

@@ -1,6 +1,6 @@
 // Pieces of an answer.
 ghost use mathlib.Core.Path.{_≡_};
-ghost use Rattle.figures.specs.Page.{_▹_, letters};
+ghost use Rattle.figures.specs.Page.{_▹_};
 ghost use Rattle.figures.specs.Digits as spelt;
 ghost use Rattle.lines.specs.Phrases as phrases;
 use figures::Reason;

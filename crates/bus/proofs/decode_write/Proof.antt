@@ -10,9 +10,6 @@ use Rattle.bus.proofs.Numbers.{decode-holds, refusing, handing}
 use Rattle.bus.proofs.decode_write.Statement.{statement}
 use Rattle.bus.proofs.decode_write.Tie as tie
 
-decode-number-requires : tie.Need-decode-number-requires
-decode-number-requires c κs = search needs
-
 returns : tie.Need-returns
 unfolding decodedWrite
 returns c =
@@ -22,9 +19,6 @@ returns c =
 
 body-requires : tie.Need-body-requires
 body-requires c κs = shaped-nonempty _ _ (decode-holds _ _ _ _ (sym (c .before .decode-number .ensures) ∙ c .if1 .left) .0)
-
-receiving-requires : tie.Need-receiving-requires
-receiving-requires c κs = search needs
 
 write-changed-requires : tie.Need-write-changed-requires
 unfolding pairsOf
@@ -39,12 +33,6 @@ shared-slice-read-addressed : tie.Need-shared-slice-read-addressed
 shared-slice-read-addressed c =
     let passed = c .before .before .before .before .before .before .before in
     shaped-nonempty _ _ (decode-holds _ _ _ _ (sym (passed .before .decode-number .ensures) ∙ passed .if1 .left) .0)
-
-addressed-requires : tie.Need-addressed-requires
-addressed-requires c κs = search needs
-
-same-length : tie.Need-same-length
-same-length c = search needs
 
 returns-2 : tie.Need-returns-2
 unfolding decodedWrite pairsOf
@@ -63,12 +51,12 @@ pub decode-write-spec : {M : Type 1} → statement M
 decode-write-spec =
     tie.close
     (tie.spec
-    decode-number-requires
+    (λ c κs. search needs)
     returns
     body-requires
-    receiving-requires
+    (λ c κs. search needs)
     write-changed-requires
     shared-slice-read-addressed
-    addressed-requires
-    same-length
+    (λ c κs. search needs)
+    (λ c. search needs)
     returns-2)

@@ -7,12 +7,6 @@ use Rattle.bus.proofs.Numbers.{read-holds, refusing, handing}
 use Rattle.bus.proofs.encode_read.Statement.{statement}
 use Rattle.bus.proofs.encode_read.Tie as tie
 
-question-length-requires : tie.Need-question-length-requires
-question-length-requires c κs = search needs
-
-read-number-requires : tie.Need-read-number-requires
-read-number-requires c κs = search needs
-
 returns : tie.Need-returns
 unfolding encodedRead
 returns c =
@@ -26,9 +20,6 @@ write-question-requires c κs =
     let passed = c .before in
     let number = rw (passed .before .before .question-length .ensures) at (sym (passed .before .read-number .ensures)) in
     read-holds _ _ _ _ (number ∙ passed .if1 .left)
-
-same-length : tie.Need-same-length
-same-length c = search needs
 
 returns-2 : tie.Need-returns-2
 unfolding encodedRead
@@ -44,9 +35,9 @@ pub encode-read-spec : {M : Type 1} → statement M
 encode-read-spec =
     tie.close
     (tie.spec
-    question-length-requires
-    read-number-requires
+    (λ c κs. search needs)
+    (λ c κs. search needs)
     returns
     write-question-requires
-    same-length
+    (λ c. search needs)
     returns-2)

@@ -8,12 +8,6 @@ use Rattle.bus.proofs.Numbers.{encode-holds, refusing, handing}
 use Rattle.bus.proofs.encode_write.Statement.{statement}
 use Rattle.bus.proofs.encode_write.Tie as tie
 
-message-length-requires : tie.Need-message-length-requires
-message-length-requires c κs = search needs
-
-encode-number-requires : tie.Need-encode-number-requires
-encode-number-requires c κs = search needs
-
 returns : tie.Need-returns
 unfolding encodedWrite
 returns c =
@@ -31,9 +25,6 @@ write-message-requires c κs =
     let (device, sendable) = encode-holds (a .device) (a .pairs .now) _ _ (number ∙ passed .if1 .left) in
     (device, pairs-even (a .pairs .now) (sendable .pairwise), sendable .roomy)
 
-same-length : tie.Need-same-length
-same-length c = search needs
-
 returns-2 : tie.Need-returns-2
 unfolding encodedWrite
 returns-2 c =
@@ -48,9 +39,9 @@ pub encode-write-spec : {M : Type 1} → statement M
 encode-write-spec =
     tie.close
     (tie.spec
-    message-length-requires
-    encode-number-requires
+    (λ c κs. search needs)
+    (λ c κs. search needs)
     returns
     write-message-requires
-    same-length
+    (λ c. search needs)
     returns-2)

@@ -3,21 +3,6 @@ use borrow.Author.Needs.{needs}
 use Rattle.commands.proofs.all_three.Statement.{statement}
 use Rattle.commands.proofs.all_three.Tie as tie
 
-both-requires : tie.Need-both-requires
-both-requires c κs = search needs
-
-enum-known-reason : tie.Need-enum-known-reason
-enum-known-reason c = search needs
-
-enum-known-a : tie.Need-enum-known-a
-enum-known-a c = search needs
-
-enum-known-third : tie.Need-enum-known-third
-enum-known-third c = search needs
-
-enum-known-third-2 : tie.Need-enum-known-third-2
-enum-known-third-2 c = search needs
-
 returns : tie.Need-returns
 returns c = rw (← c .before .before .before .both .ensures, c .before .reason .given .1)
 
@@ -33,11 +18,11 @@ pub all-three-spec : {M : Type 1} → statement M
 all-three-spec =
     tie.close
     (tie.spec
-    both-requires
-    enum-known-reason
-    enum-known-a
-    enum-known-third
-    enum-known-third-2
+    (λ c κs. search needs)
+    (λ c. search needs)
+    (λ c. search needs)
+    (λ c. search needs)
+    (λ c. search needs)
     returns
     returns-2
     returns-3)

@@ -4,12 +4,6 @@ use borrow.Author.Needs.{needs}
 use Rattle.commands.proofs.buffer.Statement.{statement}
 use Rattle.commands.proofs.buffer.Tie as tie
 
-enum-known-length : tie.Need-enum-known-length
-enum-known-length c = search needs
-
-enum-known-length-2 : tie.Need-enum-known-length-2
-enum-known-length-2 c = search needs
-
 returns : tie.Need-returns
 returns c = rw (c .before .length .given .1)
 
@@ -21,4 +15,4 @@ returns-3 c = rw (c .before .before .length2 .given .1) (search cases)
 
 pub buffer-spec : {M : Type 1} → statement M
 buffer-spec =
-    tie.close (tie.spec enum-known-length enum-known-length-2 returns returns-2 returns-3)
+    tie.close (tie.spec (λ c. search needs) (λ c. search needs) returns returns-2 returns-3)

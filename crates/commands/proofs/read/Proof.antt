@@ -13,15 +13,6 @@ returns-2 : tie.Need-returns-2
 unfolding asked
 returns-2 c = search cases
 
-command-requires : tie.Need-command-requires
-command-requires c κs = search needs
-
-count-requires : tie.Need-count-requires
-count-requires c κs = search needs
-
-counted-requires : tie.Need-counted-requires
-counted-requires c κs = search needs
-
 returns-3 : tie.Need-returns-3
 unfolding asked
 returns-3 c = rw (c .counted .ensures, c .before .count .ensures, c .before .before .command .ensures) (search cases)
@@ -29,4 +20,4 @@ returns-3 c = rw (c .counted .ensures, c .before .count .ensures, c .before .bef
 pub read-spec : {M : Type 1} → statement M
 read-spec =
     tie.close
-    (tie.spec returns returns-2 command-requires count-requires counted-requires returns-3)
+    (tie.spec returns returns-2 (λ c κs. search needs) (λ c κs. search needs) (λ c κs. search needs) returns-3)

@@ -5,9 +5,6 @@ use borrow.Author.Needs.{needs}
 use Rattle.figures.proofs.read_bytes.Statement.{statement}
 use Rattle.figures.proofs.read_bytes.Tie as tie
 
-is-dash-requires : tie.Need-is-dash-requires
-is-dash-requires c κs = search needs
-
 returns : tie.Need-returns
 unfolding bytes
 returns c = search cases
@@ -16,16 +13,10 @@ returns-2 : tie.Need-returns-2
 unfolding bytes
 returns-2 c = search cases
 
-lay-requires : tie.Need-lay-requires
-lay-requires c κs = search needs
-
-same-length : tie.Need-same-length
-same-length c = search needs
-
 returns-3 : tie.Need-returns-3
 unfolding bytes
 returns-3 c = search cases
 
 pub read-bytes-spec : {M : Type 1} → statement M
 read-bytes-spec =
-    tie.close (tie.spec is-dash-requires returns returns-2 lay-requires same-length returns-3)
+    tie.close (tie.spec (λ c κs. search needs) returns returns-2 (λ c κs. search needs) (λ c. search needs) returns-3)

@@ -9,24 +9,9 @@ returns : tie.Need-returns
 unfolding pair
 returns c = search cases
 
-are-hex-requires : tie.Need-are-hex-requires
-are-hex-requires c κs = search needs
-
 returns-2 : tie.Need-returns-2
 unfolding pair
 returns-2 c = search cases
-
-shared-slice-read-byte : tie.Need-shared-slice-read-byte
-shared-slice-read-byte c = search needs
-
-shared-slice-read-byte-2 : tie.Need-shared-slice-read-byte-2
-shared-slice-read-byte-2 c = search needs
-
-byte-requires : tie.Need-byte-requires
-byte-requires c κs = search needs
-
-cast-t2 : tie.Need-cast-t2
-cast-t2 c = search needs
 
 returns-3 : tie.Need-returns-3
 unfolding pair
@@ -37,10 +22,10 @@ read-pair-spec =
     tie.close
     (tie.spec
     returns
-    are-hex-requires
+    (λ c κs. search needs)
     returns-2
-    shared-slice-read-byte
-    shared-slice-read-byte-2
-    byte-requires
-    cast-t2
+    (λ c. search needs)
+    (λ c. search needs)
+    (λ c κs. search needs)
+    (λ c. search needs)
     returns-3)

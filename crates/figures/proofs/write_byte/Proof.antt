@@ -5,15 +5,6 @@ use Rattle.figures.specs.Page.{writtenByte}
 use Rattle.figures.proofs.write_byte.Statement.{statement}
 use Rattle.figures.proofs.write_byte.Tie as tie
 
-slice-write-out : tie.Need-slice-write-out
-slice-write-out c = search needs
-
-add-result : tie.Need-add-result
-add-result c = search needs
-
-same-length : tie.Need-same-length
-same-length c = search needs
-
 returns : tie.Need-returns
 unfolding writtenByte
 returns c = search cases
@@ -23,4 +14,4 @@ unfolding writtenByte
 returns-2 c = search cases
 
 pub write-byte-spec : {M : Type 1} → statement M
-write-byte-spec = tie.close (tie.spec slice-write-out add-result same-length returns returns-2)
+write-byte-spec = tie.close (tie.spec (λ c. search needs) (λ c. search needs) (λ c. search needs) returns returns-2)

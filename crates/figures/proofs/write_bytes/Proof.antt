@@ -4,7 +4,7 @@ use borrow.Author.Needs.{needs}
 use borrow.Author.Tests.{eq-eqb, ne-eqb}
 use native.Mathlib.Omega.{arith}
 use mathlib.Core.List.{List}
-use mathlib.Core.Path.{_≡_, refl, ap}
+use mathlib.Core.Path.{_≡_, refl}
 use lib.ListN.{length, getD, drop, drop-of-length-le}
 use Rattle.laws.specs.Rest.{rest}
 use Rattle.figures.specs.Page.{writtenByte, written}

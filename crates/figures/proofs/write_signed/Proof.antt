@@ -41,21 +41,6 @@ module _ (z w : ℤ) (n : ℕ) (p r : List ℕ × ℕ) (e : w ≡ z) (f : n ≡ 
   unfolding written signed
   with-none s h = rw (written-append (sign z) (decimal (natAbs z)) p, s, ← e, ← f) h
 
-write-byte-requires : tie.Need-write-byte-requires
-write-byte-requires c κs = search needs
-
-widen-requires : tie.Need-widen-requires
-widen-requires c κs = search needs
-
-magnitude-requires : tie.Need-magnitude-requires
-magnitude-requires c κs = search needs
-
-write-decimal-requires : tie.Need-write-decimal-requires
-write-decimal-requires c κs = search needs
-
-same-length : tie.Need-same-length
-same-length c = search needs
-
 returns : tie.Need-returns
 returns c =
     let a = c .before .before .before .before .before .before .before .before .before .before .before .before in
@@ -63,18 +48,6 @@ returns c =
     with-minus _ _ _ _ _ (toZ-ofZ {w = w64} (record { sfits = u .ok }) ∙ u .ensures .0 ∙ toZ-ofZ (a .fits .z))
     (c .before .before .before .before .magnitude .ensures) _ (minus _ (a .fits .z) (c .before .before .before .before .before .before .before .before .before .before .if1 .taken))
     (c .before .before .before .before .before .before .before .before .write-byte .ensures) (c .before .before .write-decimal .ensures)
-
-widen-requires-2 : tie.Need-widen-requires-2
-widen-requires-2 c κs = search needs
-
-magnitude-requires-2 : tie.Need-magnitude-requires-2
-magnitude-requires-2 c κs = search needs
-
-write-decimal-requires-2 : tie.Need-write-decimal-requires-2
-write-decimal-requires-2 c κs = search needs
-
-same-length-2 : tie.Need-same-length-2
-same-length-2 c = search needs
 
 returns-2 : tie.Need-returns-2
 returns-2 c =
@@ -87,14 +60,14 @@ pub write-signed-spec : {M : Type 1} → statement M
 write-signed-spec =
     tie.close
     (tie.spec
-    write-byte-requires
-    widen-requires
-    magnitude-requires
-    write-decimal-requires
-    same-length
+    (λ c κs. search needs)
+    (λ c κs. search needs)
+    (λ c κs. search needs)
+    (λ c κs. search needs)
+    (λ c. search needs)
     returns
-    widen-requires-2
-    magnitude-requires-2
-    write-decimal-requires-2
-    same-length-2
+    (λ c κs. search needs)
+    (λ c κs. search needs)
+    (λ c κs. search needs)
+    (λ c. search needs)
     returns-2)

@@ -8,9 +8,6 @@ use Rattle.bus.proofs.Buffers.{one-stored}
 use Rattle.bus.proofs.addressing.write_leading.Statement.{statement}
 use Rattle.bus.proofs.addressing.write_leading.Tie as tie
 
-enum-known-device : tie.Need-enum-known-device
-enum-known-device c = search needs
-
 mul-lent : tie.Need-mul-lent
 mul-lent c =
     let entry = c .before .before .before in
@@ -21,22 +18,13 @@ slice-write-lent c =
     let entry = c .before .before .before in
     rw (c .before .device .given .1) at (entry .pre .1)
 
-enum-told : tie.Need-enum-told
-enum-told c = search needs
-
-same-length : tie.Need-same-length
-same-length c = search needs
-
 returns : tie.Need-returns
 returns c =
     let entry = c .before .before .before in
     let room : 1 ≤ length (entry .args .lent .now) = rw (c .before .device .given .1) at (entry .pre .1) in
     rw (c .before .device .given .1) (one-stored (entry .args .lent .now) _ room)
 
-returns-2 : tie.Need-returns-2
-returns-2 c = search needs
-
 pub write-leading-spec : {M : Type 1} → statement M
 write-leading-spec =
     tie.close
-    (tie.spec enum-known-device mul-lent slice-write-lent enum-told same-length returns returns-2)
+    (tie.spec (λ c. search needs) mul-lent slice-write-lent (λ c. search needs) (λ c. search needs) returns (λ c. search needs))

@@ -8,21 +8,12 @@ use Rattle.bus.proofs.Shapes.{shaped-nonempty, decode-number}
 use Rattle.bus.proofs.checks.decode_number.Statement.{statement}
 use Rattle.bus.proofs.checks.decode_number.Tie as tie
 
-is-shaped-requires : tie.Need-is-shaped-requires
-is-shaped-requires c κs = search needs
-
 returns : tie.Need-returns
 unfolding decodeNumber
 returns c = search cases
 
 body-requires : tie.Need-body-requires
 body-requires c κs = shaped-nonempty _ _ (sym (c .before .is-shaped .ensures) ∙ not-false _ (c .if1 .left))
-
-receiving-requires : tie.Need-receiving-requires
-receiving-requires c κs = search needs
-
-pairs-number-requires : tie.Need-pairs-number-requires
-pairs-number-requires c κs = search needs
 
 returns-2 : tie.Need-returns-2
 returns-2 c =
@@ -33,9 +24,9 @@ pub decode-number-spec : {M : Type 1} → statement M
 decode-number-spec =
     tie.close
     (tie.spec
-    is-shaped-requires
+    (λ c κs. search needs)
     returns
     body-requires
-    receiving-requires
-    pairs-number-requires
+    (λ c κs. search needs)
+    (λ c κs. search needs)
     returns-2)

@@ -5,15 +5,9 @@ use Rattle.bus.specs.Writing.{encodeNumber}
 use Rattle.bus.proofs.checks.encode_number.Statement.{statement}
 use Rattle.bus.proofs.checks.encode_number.Tie as tie
 
-is-device-requires : tie.Need-is-device-requires
-is-device-requires c κs = search needs
-
 returns : tie.Need-returns
 unfolding encodeNumber
 returns c = search cases
-
-pairs-number-requires : tie.Need-pairs-number-requires
-pairs-number-requires c κs = search needs
 
 returns-2 : tie.Need-returns-2
 unfolding encodeNumber
@@ -21,4 +15,4 @@ returns-2 c = search cases
 
 pub encode-number-spec : {M : Type 1} → statement M
 encode-number-spec =
-    tie.close (tie.spec is-device-requires returns pairs-number-requires returns-2)
+    tie.close (tie.spec (λ c κs. search needs) returns (λ c κs. search needs) returns-2)

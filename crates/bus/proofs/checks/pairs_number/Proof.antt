@@ -5,15 +5,9 @@ use Rattle.bus.specs.Writing.{pairsNumber}
 use Rattle.bus.proofs.checks.pairs_number.Statement.{statement}
 use Rattle.bus.proofs.checks.pairs_number.Tie as tie
 
-are-pairs-requires : tie.Need-are-pairs-requires
-are-pairs-requires c κs = search needs
-
 returns : tie.Need-returns
 unfolding pairsNumber
 returns c = search cases
-
-every-requires : tie.Need-every-requires
-every-requires c κs = search needs
 
 returns-2 : tie.Need-returns-2
 unfolding pairsNumber
@@ -29,4 +23,4 @@ returns-4 c = search cases
 
 pub pairs-number-spec : {M : Type 1} → statement M
 pairs-number-spec =
-    tie.close (tie.spec are-pairs-requires returns every-requires returns-2 returns-3 returns-4)
+    tie.close (tie.spec (λ c κs. search needs) returns (λ c κs. search needs) returns-2 returns-3 returns-4)

@@ -5,9 +5,6 @@ use Rattle.bus.specs.Reading.{readNumber}
 use Rattle.bus.proofs.checks.read_number.Statement.{statement}
 use Rattle.bus.proofs.checks.read_number.Tie as tie
 
-is-device-requires : tie.Need-is-device-requires
-is-device-requires c κs = search needs
-
 returns : tie.Need-returns
 unfolding readNumber
 returns c = search cases
@@ -25,4 +22,4 @@ unfolding readNumber
 returns-4 c = search cases
 
 pub read-number-spec : {M : Type 1} → statement M
-read-number-spec = tie.close (tie.spec is-device-requires returns returns-2 returns-3 returns-4)
+read-number-spec = tie.close (tie.spec (λ c κs. search needs) returns returns-2 returns-3 returns-4)

@@ -5,18 +5,9 @@ use Rattle.bus.proofs.Shapes.{message-length}
 use Rattle.bus.proofs.message.message_length.Statement.{statement}
 use Rattle.bus.proofs.message.message_length.Tie as tie
 
-bus-of-requires : tie.Need-bus-of-requires
-bus-of-requires c κs = search needs
-
-leading-length-requires : tie.Need-leading-length-requires
-leading-length-requires c κs = search needs
-
-add-result : tie.Need-add-result
-add-result c = search needs
-
 returns : tie.Need-returns
 returns c = rw (c .leading-length .ensures .0, c .before .bus-of .ensures) (sym (message-length (c .before .before .before .args .device) (c .before .before .before .args .pairs .now)))
 
 pub message-length-spec : {M : Type 1} → statement M
 message-length-spec =
-    tie.close (tie.spec bus-of-requires leading-length-requires add-result returns)
+    tie.close (tie.spec (λ c κs. search needs) (λ c κs. search needs) (λ c. search needs) returns)

@@ -20,20 +20,11 @@ use Rattle.bus.proofs.message.write_message.Tie as tie
 starts : (device : Device) {bus : Bus} {start : ℕ} → bus ≡ busOf device → start ≡ leadingLength bus → start ≡ length (leading device)
 starts device b s = s ∙ rw b (leading-length device)
 
-bus-of-requires : tie.Need-bus-of-requires
-bus-of-requires c κs = search needs
-
-leading-length-requires : tie.Need-leading-length-requires
-leading-length-requires c κs = search needs
-
 write-leading-requires : tie.Need-write-leading-requires
 write-leading-requires c κs =
     let entry = c .before .before .before .before .before in
     let a = entry .args in
     (entry .pre .0, omega (arith, entry .pre .2, message-length (a .device) (a .pairs .now), leading-length (a .device)))
-
-sending-requires : tie.Need-sending-requires
-sending-requires c κs = search needs
 
 sub-write-changed : tie.Need-sub-write-changed
 sub-write-changed c =
@@ -45,9 +36,6 @@ sub-write-changed c =
 part-write-changed-start : tie.Need-part-write-changed-start
 part-write-changed-start c = sub-write-changed c
 
-part-write-changed-end : tie.Need-part-write-changed-end
-part-write-changed-end c = search needs
-
 write-changed-requires : tie.Need-write-changed-requires
 unfolding message
 write-changed-requires c κs =
@@ -58,9 +46,6 @@ write-changed-requires c κs =
     let start = starts (a .device) (led .before .before .before .bus-of .ensures) (led .before .before .leading-length .ensures .0) in
     let room = part-room (leading (a .device)) tail _ (a .lent .now) _ start (led .write-leading .ensures) (entry .pre .2) in
     (entry .pre .1, rw (changed-length (sending (busOf (a .device))) (a .pairs .now)) at room)
-
-same-length : tie.Need-same-length
-same-length c = search needs
 
 returns : tie.Need-returns
 unfolding message
@@ -77,13 +62,13 @@ pub write-message-spec : {M : Type 1} → statement M
 write-message-spec =
     tie.close
     (tie.spec
-    bus-of-requires
-    leading-length-requires
+    (λ c κs. search needs)
+    (λ c κs. search needs)
     write-leading-requires
-    sending-requires
+    (λ c κs. search needs)
     sub-write-changed
     part-write-changed-start
-    part-write-changed-end
+    (λ c. search needs)
     write-changed-requires
-    same-length
+    (λ c. search needs)
     returns)

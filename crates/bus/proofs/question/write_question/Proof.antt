@@ -8,9 +8,6 @@ use Rattle.bus.proofs.Buffers.{one-stored, three-stored}
 use Rattle.bus.proofs.question.write_question.Statement.{statement}
 use Rattle.bus.proofs.question.write_question.Tie as tie
 
-enum-known-device : tie.Need-enum-known-device
-enum-known-device c = search needs
-
 mul-lent : tie.Need-mul-lent
 mul-lent c =
     let entry = c .before .before .before .before in
@@ -42,26 +39,14 @@ slice-write-lent-3 c =
     let room : 3 ≤ length (entry .args .lent .now) = rw (c .before .device .given .1) at (entry .pre .1) in
     simp length-set (omega arith)
 
-enum-told : tie.Need-enum-told
-enum-told c = search needs
-
-changed-requires : tie.Need-changed-requires
-changed-requires c κs = search needs
-
 slice-write-lent-4 : tie.Need-slice-write-lent-4
 slice-write-lent-4 c = rw (c .before .enum-told .given .1) at (c .before .before .before .before .pre .1)
-
-same-length : tie.Need-same-length
-same-length c = search needs
 
 returns : tie.Need-returns
 returns c =
     let entry = c .before .before .before .before in
     let room : 3 ≤ length (entry .args .lent .now) = rw (c .before .device .given .1) at (entry .pre .1) in
     rw (c .before .device .given .1) (three-stored (entry .args .lent .now) _ _ _ room)
-
-same-length-2 : tie.Need-same-length-2
-same-length-2 c = search needs
 
 returns-2 : tie.Need-returns-2
 returns-2 c =
@@ -73,17 +58,17 @@ pub write-question-spec : {M : Type 1} → statement M
 write-question-spec =
     tie.close
     (tie.spec
-    enum-known-device
+    (λ c. search needs)
     mul-lent
     slice-write-lent
     slice-write-lent-2
     mul-lent-2
     add-lent
     slice-write-lent-3
-    enum-told
-    changed-requires
+    (λ c. search needs)
+    (λ c κs. search needs)
     slice-write-lent-4
-    same-length
+    (λ c. search needs)
     returns
-    same-length-2
+    (λ c. search needs)
     returns-2)

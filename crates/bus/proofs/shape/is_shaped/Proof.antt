@@ -10,19 +10,10 @@ returns : tie.Need-returns
 unfolding isShaped
 returns c = rw (lt-leb 1 _ (c .if1 .taken))
 
-shared-slice-read-is-led : tie.Need-shared-slice-read-is-led
-shared-slice-read-is-led c = search needs
-
-is-led-requires : tie.Need-is-led-requires
-is-led-requires c κs = search needs
-
 returns-2 : tie.Need-returns-2
 unfolding isShaped
 returns-2 c =
     rw (le-leb 1 _ (c .before .before .before .if1 .left), sym (c .before .is-led .ensures) ∙ not-true _ (c .if2 .taken))
-
-body-requires : tie.Need-body-requires
-body-requires c κs = search needs
 
 returns-3 : tie.Need-returns-3
 unfolding isShaped
@@ -30,9 +21,6 @@ returns-3 c =
     let led = c .before .before in
     let some = le-leb 1 _ (led .before .before .before .if1 .left) in
     rw (some, sym (led .before .is-led .ensures) ∙ not-false _ (led .if2 .left), ← c .before .body .ensures, ne-eqb _ 0 (c .if3 .taken))
-
-every-requires : tie.Need-every-requires
-every-requires c κs = search needs
 
 returns-4 : tie.Need-returns-4
 unfolding isShaped
@@ -47,10 +35,10 @@ is-shaped-spec =
     tie.close
     (tie.spec
     returns
-    shared-slice-read-is-led
-    is-led-requires
+    (λ c. search needs)
+    (λ c κs. search needs)
     returns-2
-    body-requires
+    (λ c κs. search needs)
     returns-3
-    every-requires
+    (λ c κs. search needs)
     returns-4)

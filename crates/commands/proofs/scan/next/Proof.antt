@@ -5,7 +5,7 @@ use mathlib.Core.Path.{_≡_, sym, ap, _∙_}
 use native.Mathlib.Omega.{arith}
 use lib.ListN.{length, drop, drop-of-length-le}
 use lib.Seq.{drop-drop}
-use Rattle.commands.specs.Words.{fromSpace, afterSpace, Ended}
+use Rattle.commands.specs.Words.{afterSpace, Ended}
 use borrow.Author.Needs.{needs}
 use Rattle.commands.proofs.scan.next.Statement.{statement}
 use Rattle.commands.proofs.scan.next.Tie as tie
@@ -18,12 +18,6 @@ at-end line from end w h =
     let none : drop end line ≡ [] = drop-of-length-le line h in
     none ∙ ap (drop 1) (sym none ∙ w .after)
 
-end-requires : tie.Need-end-requires
-end-requires c κs = search needs
-
-add-result : tie.Need-add-result
-add-result c = search needs
-
 returns : tie.Need-returns
 returns c = (omega arith, past _ _ _ (c .before .end .ensures))
 
@@ -31,4 +25,4 @@ returns-2 : tie.Need-returns-2
 returns-2 c = (c .before .end .ensures .within, at-end _ _ _ (c .before .end .ensures) (c .if1 .left))
 
 pub next-spec : {M : Type 1} → statement M
-next-spec = tie.close (tie.spec end-requires add-result returns returns-2)
+next-spec = tie.close (tie.spec (λ c κs. search needs) (λ c. search needs) returns returns-2)

@@ -5,28 +5,13 @@ use borrow.Author.Needs.{needs}
 use Rattle.commands.proofs.verbs.change.Statement.{statement}
 use Rattle.commands.proofs.verbs.change.Tie as tie
 
-slice-aggregate-is : tie.Need-slice-aggregate-is
-slice-aggregate-is c = search needs
-
-is-requires : tie.Need-is-requires
-is-requires c κs = search needs
-
 returns : tie.Need-returns
 unfolding change
 returns c = search cases
 
-slice-aggregate-is-2 : tie.Need-slice-aggregate-is-2
-slice-aggregate-is-2 c = search needs
-
-is-requires-2 : tie.Need-is-requires-2
-is-requires-2 c κs = search needs
-
 returns-2 : tie.Need-returns-2
 unfolding change
 returns-2 c = search cases
-
-burst-requires : tie.Need-burst-requires
-burst-requires c κs = search needs
 
 returns-3 : tie.Need-returns-3
 unfolding change
@@ -36,11 +21,11 @@ pub change-spec : {M : Type 1} → statement M
 change-spec =
     tie.close
     (tie.spec
-    slice-aggregate-is
-    is-requires
+    (λ c. search needs)
+    (λ c κs. search needs)
     returns
-    slice-aggregate-is-2
-    is-requires-2
+    (λ c. search needs)
+    (λ c κs. search needs)
     returns-2
-    burst-requires
+    (λ c κs. search needs)
     returns-3)

@@ -4,42 +4,6 @@ use borrow.Author.Needs.{needs}
 use Rattle.commands.proofs.verbs.completed.Statement.{statement}
 use Rattle.commands.proofs.verbs.completed.Tie as tie
 
-enum-known-verb : tie.Need-enum-known-verb
-enum-known-verb c = search needs
-
-enum-told : tie.Need-enum-told
-enum-told c = search needs
-
-wait-requires : tie.Need-wait-requires
-wait-requires c κs = search needs
-
-present-requires : tie.Need-present-requires
-present-requires c κs = search needs
-
-enum-told-2 : tie.Need-enum-told-2
-enum-told-2 c = search needs
-
-i2c-requires : tie.Need-i2c-requires
-i2c-requires c κs = search needs
-
-present-requires-2 : tie.Need-present-requires-2
-present-requires-2 c κs = search needs
-
-enum-told-3 : tie.Need-enum-told-3
-enum-told-3 c = search needs
-
-spi-requires : tie.Need-spi-requires
-spi-requires c κs = search needs
-
-present-requires-3 : tie.Need-present-requires-3
-present-requires-3 c κs = search needs
-
-enum-told-4 : tie.Need-enum-told-4
-enum-told-4 c = search needs
-
-enum-told-5 : tie.Need-enum-told-5
-enum-told-5 c = search needs
-
 returns : tie.Need-returns
 returns c = rw (c .before .verb .given .1)
 
@@ -65,18 +29,18 @@ pub completed-spec : {M : Type 1} → statement M
 completed-spec =
     tie.close
     (tie.spec
-    enum-known-verb
-    enum-told
-    wait-requires
-    present-requires
-    enum-told-2
-    i2c-requires
-    present-requires-2
-    enum-told-3
-    spi-requires
-    present-requires-3
-    enum-told-4
-    enum-told-5
+    (λ c. search needs)
+    (λ c. search needs)
+    (λ c κs. search needs)
+    (λ c κs. search needs)
+    (λ c. search needs)
+    (λ c κs. search needs)
+    (λ c κs. search needs)
+    (λ c. search needs)
+    (λ c κs. search needs)
+    (λ c κs. search needs)
+    (λ c. search needs)
+    (λ c. search needs)
     returns
     returns-2
     returns-3

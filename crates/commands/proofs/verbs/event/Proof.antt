@@ -5,48 +5,21 @@ use borrow.Author.Needs.{needs}
 use Rattle.commands.proofs.verbs.event.Statement.{statement}
 use Rattle.commands.proofs.verbs.event.Tie as tie
 
-slice-aggregate-is : tie.Need-slice-aggregate-is
-slice-aggregate-is c = search needs
-
-is-requires : tie.Need-is-requires
-is-requires c κs = search needs
-
 returns : tie.Need-returns
 unfolding event
 returns c = search cases
-
-slice-aggregate-is-2 : tie.Need-slice-aggregate-is-2
-slice-aggregate-is-2 c = search needs
-
-is-requires-2 : tie.Need-is-requires-2
-is-requires-2 c κs = search needs
 
 returns-2 : tie.Need-returns-2
 unfolding event
 returns-2 c = search cases
 
-slice-aggregate-is-3 : tie.Need-slice-aggregate-is-3
-slice-aggregate-is-3 c = search needs
-
-is-requires-3 : tie.Need-is-requires-3
-is-requires-3 c κs = search needs
-
 returns-3 : tie.Need-returns-3
 unfolding event
 returns-3 c = search cases
 
-slice-aggregate-is-4 : tie.Need-slice-aggregate-is-4
-slice-aggregate-is-4 c = search needs
-
-is-requires-4 : tie.Need-is-requires-4
-is-requires-4 c κs = search needs
-
 returns-4 : tie.Need-returns-4
 unfolding event
 returns-4 c = search cases
-
-change-requires : tie.Need-change-requires
-change-requires c κs = search needs
 
 returns-5 : tie.Need-returns-5
 unfolding event
@@ -56,17 +29,17 @@ pub event-spec : {M : Type 1} → statement M
 event-spec =
     tie.close
     (tie.spec
-    slice-aggregate-is
-    is-requires
+    (λ c. search needs)
+    (λ c κs. search needs)
     returns
-    slice-aggregate-is-2
-    is-requires-2
+    (λ c. search needs)
+    (λ c κs. search needs)
     returns-2
-    slice-aggregate-is-3
-    is-requires-3
+    (λ c. search needs)
+    (λ c κs. search needs)
     returns-3
-    slice-aggregate-is-4
-    is-requires-4
+    (λ c. search needs)
+    (λ c κs. search needs)
     returns-4
-    change-requires
+    (λ c κs. search needs)
     returns-5)

@@ -5,31 +5,13 @@ use borrow.Author.Needs.{needs}
 use Rattle.commands.proofs.verbs.spi.Statement.{statement}
 use Rattle.commands.proofs.verbs.spi.Tie as tie
 
-slice-aggregate-is : tie.Need-slice-aggregate-is
-slice-aggregate-is c = search needs
-
-is-requires : tie.Need-is-requires
-is-requires c κs = search needs
-
 returns : tie.Need-returns
 unfolding spi
 returns c = search cases
 
-slice-aggregate-is-2 : tie.Need-slice-aggregate-is-2
-slice-aggregate-is-2 c = search needs
-
-is-requires-2 : tie.Need-is-requires-2
-is-requires-2 c κs = search needs
-
 returns-2 : tie.Need-returns-2
 unfolding spi
 returns-2 c = search cases
-
-slice-aggregate-is-3 : tie.Need-slice-aggregate-is-3
-slice-aggregate-is-3 c = search needs
-
-is-requires-3 : tie.Need-is-requires-3
-is-requires-3 c κs = search needs
 
 returns-3 : tie.Need-returns-3
 unfolding spi
@@ -43,13 +25,13 @@ pub spi-spec : {M : Type 1} → statement M
 spi-spec =
     tie.close
     (tie.spec
-    slice-aggregate-is
-    is-requires
+    (λ c. search needs)
+    (λ c κs. search needs)
     returns
-    slice-aggregate-is-2
-    is-requires-2
+    (λ c. search needs)
+    (λ c κs. search needs)
     returns-2
-    slice-aggregate-is-3
-    is-requires-3
+    (λ c. search needs)
+    (λ c κs. search needs)
     returns-3
     returns-4)

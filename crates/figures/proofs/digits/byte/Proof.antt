@@ -4,21 +4,9 @@ use borrow.Author.Needs.{needs}
 use Rattle.figures.proofs.digits.byte.Statement.{statement}
 use Rattle.figures.proofs.digits.byte.Tie as tie
 
-value-requires : tie.Need-value-requires
-value-requires c κs = search needs
-
-mul-result : tie.Need-mul-result
-mul-result c = search needs
-
-value-requires-2 : tie.Need-value-requires-2
-value-requires-2 c κs = search needs
-
-add-result : tie.Need-add-result
-add-result c = search needs
-
 returns : tie.Need-returns
 unfolding hexByte
 returns c = cc
 
 pub byte-spec : {M : Type 1} → statement M
-byte-spec = tie.close (tie.spec value-requires mul-result value-requires-2 add-result returns)
+byte-spec = tie.close (tie.spec (λ c κs. search needs) (λ c. search needs) (λ c κs. search needs) (λ c. search needs) returns)

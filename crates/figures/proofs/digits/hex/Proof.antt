@@ -5,12 +5,6 @@ use borrow.Author.Needs.{needs}
 use Rattle.figures.proofs.digits.hex.Statement.{statement}
 use Rattle.figures.proofs.digits.hex.Tie as tie
 
-add-result : tie.Need-add-result
-add-result c = search needs
-
-add-result-2 : tie.Need-add-result-2
-add-result-2 c = search needs
-
 returns : tie.Need-returns
 unfolding hexDigit
 returns c = search cases
@@ -20,4 +14,4 @@ unfolding hexDigit
 returns-2 c = search cases
 
 pub hex-spec : {M : Type 1} → statement M
-hex-spec = tie.close (tie.spec add-result add-result-2 returns returns-2)
+hex-spec = tie.close (tie.spec (λ c. search needs) (λ c. search needs) returns returns-2)

@@ -9,12 +9,9 @@ returns : tie.Need-returns
 unfolding isDash
 returns c = search cases
 
-shared-slice-read-result : tie.Need-shared-slice-read-result
-shared-slice-read-result c = search needs
-
 returns-2 : tie.Need-returns-2
 unfolding isDash
 returns-2 c = search cases
 
 pub is-dash-spec : {M : Type 1} → statement M
-is-dash-spec = tie.close (tie.spec returns shared-slice-read-result returns-2)
+is-dash-spec = tie.close (tie.spec returns (λ c. search needs) returns-2)

@@ -4,9 +4,6 @@ use borrow.Author.Needs.{needs}
 use Rattle.figures.proofs.digits.lay.Statement.{statement}
 use Rattle.figures.proofs.digits.lay.Tie as tie
 
-are-hex-requires : tie.Need-are-hex-requires
-are-hex-requires c κs = search needs
-
 returns : tie.Need-returns
 returns c = search cases
 
@@ -16,12 +13,6 @@ returns-2 c = search cases
 returns-3 : tie.Need-returns-3
 returns-3 c = search cases
 
-lay-pairs-requires : tie.Need-lay-pairs-requires
-lay-pairs-requires c κs = search needs
-
-same-length : tie.Need-same-length
-same-length c = search needs
-
 returns-4 : tie.Need-returns-4
 returns-4 c = rw (c .before .before .lay-pairs .ensures) (search cases)
 
@@ -29,10 +20,10 @@ pub lay-spec : {M : Type 1} → statement M
 lay-spec =
     tie.close
     (tie.spec
-    are-hex-requires
+    (λ c κs. search needs)
     returns
     returns-2
     returns-3
-    lay-pairs-requires
-    same-length
+    (λ c κs. search needs)
+    (λ c. search needs)
     returns-4)

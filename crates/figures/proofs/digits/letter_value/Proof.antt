@@ -9,9 +9,6 @@ returns : tie.Need-returns
 unfolding letterValue
 returns c = search cases
 
-sub-result : tie.Need-sub-result
-sub-result c = search needs
-
 returns-2 : tie.Need-returns-2
 unfolding letterValue
 returns-2 c = search cases
@@ -19,9 +16,6 @@ returns-2 c = search cases
 returns-3 : tie.Need-returns-3
 unfolding letterValue
 returns-3 c = search cases
-
-sub-result-2 : tie.Need-sub-result-2
-sub-result-2 c = search needs
 
 returns-4 : tie.Need-returns-4
 unfolding letterValue
@@ -33,4 +27,4 @@ returns-5 c = search cases
 
 pub letter-value-spec : {M : Type 1} → statement M
 letter-value-spec =
-    tie.close (tie.spec returns sub-result returns-2 returns-3 sub-result-2 returns-4 returns-5)
+    tie.close (tie.spec returns (λ c. search needs) returns-2 returns-3 (λ c. search needs) returns-4 returns-5)

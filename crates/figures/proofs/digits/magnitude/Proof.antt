@@ -1,5 +1,5 @@
 -- A negative number taken from zero, or the number itself, is as far from zero and not negative.
-use Prim.Native.Nat.{ℕ, _<_}
+use Prim.Native.Nat.{_<_}
 use native.Mathlib.Omega.{arith}
 use mathlib.Core.Bool.{true, false}
 use borrow.Author.Tests.{ltb-true}

@@ -13,12 +13,9 @@ returns-2 : tie.Need-returns-2
 unfolding digitValue
 returns-2 c = search cases
 
-letter-value-requires : tie.Need-letter-value-requires
-letter-value-requires c κs = search needs
-
 returns-3 : tie.Need-returns-3
 unfolding digitValue
 returns-3 c = search cases
 
 pub value-spec : {M : Type 1} → statement M
-value-spec = tie.close (tie.spec returns returns-2 letter-value-requires returns-3)
+value-spec = tie.close (tie.spec returns returns-2 (λ c κs. search needs) returns-3)

@@ -5,7 +5,6 @@ use mir.Val.{SFits}
 use mir.Facts.{toZ-ofZ}
 use borrow.Author.Needs.{needs}
 use Rattle.steps.specs.declared.Signed.the-variants.{Bits32}
-use Rattle.steps.specs.Work.{given}
 use Rattle.formulas.specs.Humidity.{bendFactor, gainFactor}
 use Rattle.formulas.specs.Plain.{Gives}
 use Rattle.formulas.proofs.Bounds.{fit, within, Read, widened, word, literal, down, times, plus}

@@ -1,16 +1,15 @@
 -- `formulas::plain_humidity::humidity` meets its contract: the functions give the formula's lines one after the other; where the product is not small the checked road answers.
 use Prim.Native.Nat.{_≤_}
-use mathlib.Core.Path.{_≡_, refl, _∙_}
+use mathlib.Core.Path.{refl, _∙_}
 use lib.IntN.{pos, natAbs, _-ℤ_, _*ℤ_}
-use mir.Syntax.{w32, w64}
+use mir.Syntax.{w32}
 use mir.Val.{toZ, ofZ}
 use mir.Facts.{toZ-ofZ}
 use borrow.Author.Needs.{needs}
 use Rattle.steps.specs.declared.Signed.the-variants.{Bits32}
-use Rattle.steps.specs.declared.Signed.the-variants.{Bits64}
 use Rattle.steps.specs.Step.{onValue}
 use Rattle.steps.specs.Work.{run}
-use Rattle.formulas.specs.Humidity.{differenceLine, levelFactor, gainFactor, productLine, correctionLine, humidityLines, humidityFormula, humidityOf}
+use Rattle.formulas.specs.Humidity.{differenceLine, levelFactor, gainFactor, productLine, humidityLines, humidityFormula, humidityOf}
 use Rattle.formulas.specs.Plain.{Gives, Small}
 use Rattle.formulas.proofs.Bounds.{local, fit, back, onto, wider, widened, word, literal, times, times-within, minus-within}
 use Rattle.formulas.proofs.plain_humidity.humidity.Statement.{statement}

@@ -3,7 +3,6 @@ use mathlib.Core.Path.{refl}
 use lib.IntN.{pos}
 use mir.Syntax.{w16}
 use mir.Val.{SFits}
-use mir.Facts.{toZ-ofZ}
 use borrow.Author.Needs.{needs}
 use Rattle.steps.specs.declared.Signed.the-variants.{Bits64}
 use Rattle.steps.specs.Work.{given, num}

@@ -1,12 +1,6 @@
 -- `formulas::plain_pressure::quotient` meets its contract: each step stays within its width, by the bounds of its operands.
-use Prim.Native.Nat.{_≤_, _<_}
 use native.Mathlib.Omega.{arith}
-use native.Mathlib.Nat.{le-refl}
 use mathlib.Core.Path.{refl}
-use lib.IntN.{pos, natAbs}
-use mir.Syntax.{w64}
-use mir.Val.{toZ, ofZ}
-use mir.Facts.{toZ-ofZ}
 use Rattle.steps.specs.declared.Signed.the-variants.{Bits64}
 use Rattle.steps.specs.Work.{given}
 use Rattle.formulas.specs.Plain.{Gives, divisionLine}

@@ -2,12 +2,12 @@
 use Prim.Native.Nat.{_/_, _≤_}
 use native.Mathlib.Omega.{arith}
 use mathlib.Core.Path.{refl}
-use lib.IntN.{pos, natAbs, _-ℤ_, _*ℤ_}
+use lib.IntN.{pos, _-ℤ_, _*ℤ_}
 use mir.Syntax.{w16}
 use mir.Val.{SFits}
 use borrow.Author.Needs.{needs}
 use Rattle.steps.specs.declared.Signed.the-variants.{Bits32}
-use Rattle.steps.specs.Work.{given, num, _-_, _<<_, _>>_}
+use Rattle.steps.specs.Work.{num, _-_, _<<_, _>>_}
 use Rattle.formulas.specs.Temperature.{slopeLine, curveLine, fineLines}
 use Rattle.formulas.specs.Plain.{Gives}
 use Rattle.formulas.proofs.Bounds.{local, fit, back, within, value, onto, Read, widened, natural, floored, word16, up, down, times, plus, minus-within}

@@ -23,36 +23,6 @@ p8-fits s = search needs
 p9-fits : (s : tie.Start) → SFits w16 (s .args .w .p9)
 p9-fits s = search needs
 
-slice-aggregate-signed16 : tie.Need-slice-aggregate-signed16
-slice-aggregate-signed16 c = search needs
-
-signed16-requires : tie.Need-signed16-requires
-signed16-requires c κs = search needs
-
-slice-aggregate-signed16-2 : tie.Need-slice-aggregate-signed16-2
-slice-aggregate-signed16-2 c = search needs
-
-signed16-requires-2 : tie.Need-signed16-requires-2
-signed16-requires-2 c κs = search needs
-
-slice-aggregate-signed16-3 : tie.Need-slice-aggregate-signed16-3
-slice-aggregate-signed16-3 c = search needs
-
-signed16-requires-3 : tie.Need-signed16-requires-3
-signed16-requires-3 c κs = search needs
-
-slice-aggregate-signed16-4 : tie.Need-slice-aggregate-signed16-4
-slice-aggregate-signed16-4 c = search needs
-
-signed16-requires-4 : tie.Need-signed16-requires-4
-signed16-requires-4 c κs = search needs
-
-slice-aggregate-signed16-5 : tie.Need-slice-aggregate-signed16-5
-slice-aggregate-signed16-5 c = search needs
-
-signed16-requires-5 : tie.Need-signed16-requires-5
-signed16-requires-5 c κs = search needs
-
 same-length : tie.Need-same-length
 same-length c = omega (arith, c .before .before .before .before .before .before .before .before .before .before .before .before .before .before .before .before .before .before .before .before .before .before .before .before .before .before .signed16 .kept .1 .1 .0, c .before .before .before .before .before .before .before .before .before .before .before .before .before .before .before .before .before .before .before .before .signed162 .kept .1 .1 .0, c .before .before .before .before .before .before .before .before .before .before .before .before .before .before .signed163 .kept .1 .1 .0, c .before .before .before .before .before .before .before .before .signed164 .kept .1 .1 .0, c .before .before .signed165 .kept .1 .1 .0)
 
@@ -64,15 +34,15 @@ pub tell-more-pressure-words-spec : {M : Type 1} → statement M
 tell-more-pressure-words-spec =
     tie.close
     (tie.spec
-    slice-aggregate-signed16
-    signed16-requires
-    slice-aggregate-signed16-2
-    signed16-requires-2
-    slice-aggregate-signed16-3
-    signed16-requires-3
-    slice-aggregate-signed16-4
-    signed16-requires-4
-    slice-aggregate-signed16-5
-    signed16-requires-5
+    (λ c. search needs)
+    (λ c κs. search needs)
+    (λ c. search needs)
+    (λ c κs. search needs)
+    (λ c. search needs)
+    (λ c κs. search needs)
+    (λ c. search needs)
+    (λ c κs. search needs)
+    (λ c. search needs)
+    (λ c κs. search needs)
     same-length
     returns)

@@ -16,36 +16,6 @@ p3-fits s = search needs
 p4-fits : (s : tie.Start) → SFits w16 (s .args .w .p4)
 p4-fits s = search needs
 
-slice-aggregate-named : tie.Need-slice-aggregate-named
-slice-aggregate-named c = search needs
-
-cast-named : tie.Need-cast-named
-cast-named c = search needs
-
-named-requires : tie.Need-named-requires
-named-requires c κs = search needs
-
-slice-aggregate-signed16 : tie.Need-slice-aggregate-signed16
-slice-aggregate-signed16 c = search needs
-
-signed16-requires : tie.Need-signed16-requires
-signed16-requires c κs = search needs
-
-slice-aggregate-signed16-2 : tie.Need-slice-aggregate-signed16-2
-slice-aggregate-signed16-2 c = search needs
-
-signed16-requires-2 : tie.Need-signed16-requires-2
-signed16-requires-2 c κs = search needs
-
-slice-aggregate-signed16-3 : tie.Need-slice-aggregate-signed16-3
-slice-aggregate-signed16-3 c = search needs
-
-signed16-requires-3 : tie.Need-signed16-requires-3
-signed16-requires-3 c κs = search needs
-
-same-length : tie.Need-same-length
-same-length c = search needs
-
 returns : tie.Need-returns
 unfolding pressureWordsTold
 returns c = rw (c .before .before .signed163 .ensures, c .before .before .before .before .before .before .before .before .signed162 .ensures, c .before .before .before .before .before .before .before .before .before .before .before .before .before .before .signed16 .ensures, c .before .before .before .before .before .before .before .before .before .before .before .before .before .before .before .before .before .before .before .before .named .ensures, toZ-ofZ (p4-fits (c .before .before .before .before .before .before .before .before .before .before .before .before .before .before .before .before .before .before .before .before .before .before .before .before .before)), toZ-ofZ (p3-fits (c .before .before .before .before .before .before .before .before .before .before .before .before .before .before .before .before .before .before .before .before .before .before .before .before .before)), toZ-ofZ (p2-fits (c .before .before .before .before .before .before .before .before .before .before .before .before .before .before .before .before .before .before .before .before .before .before .before .before .before)))
@@ -54,14 +24,14 @@ pub tell-pressure-words-spec : {M : Type 1} → statement M
 tell-pressure-words-spec =
     tie.close
     (tie.spec
-    slice-aggregate-named
-    cast-named
-    named-requires
-    slice-aggregate-signed16
-    signed16-requires
-    slice-aggregate-signed16-2
-    signed16-requires-2
-    slice-aggregate-signed16-3
-    signed16-requires-3
-    same-length
+    (λ c. search needs)
+    (λ c. search needs)
+    (λ c κs. search needs)
+    (λ c. search needs)
+    (λ c κs. search needs)
+    (λ c. search needs)
+    (λ c κs. search needs)
+    (λ c. search needs)
+    (λ c κs. search needs)
+    (λ c. search needs)
     returns)

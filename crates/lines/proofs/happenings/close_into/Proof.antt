@@ -8,21 +8,6 @@ use borrow.Author.Needs.{needs}
 use Rattle.lines.proofs.happenings.close_into.Statement.{statement}
 use Rattle.lines.proofs.happenings.close_into.Tie as tie
 
-close-requires : tie.Need-close-requires
-close-requires c κs = search needs
-
-tell-closing-requires : tie.Need-tell-closing-requires
-tell-closing-requires c κs = search needs
-
-buffer-requires : tie.Need-buffer-requires
-buffer-requires c κs = search needs
-
-same-length : tie.Need-same-length
-same-length c = search needs
-
-same-length-2 : tie.Need-same-length-2
-same-length-2 c = search needs
-
 returns : tie.Need-returns
 unfolding closeInto closedTold
 returns c =
@@ -33,9 +18,9 @@ pub close-into-spec : {M : Type 1} → statement M
 close-into-spec =
     tie.close
     (tie.spec
-    close-requires
-    tell-closing-requires
-    buffer-requires
-    same-length
-    same-length-2
+    (λ c κs. search needs)
+    (λ c κs. search needs)
+    (λ c κs. search needs)
+    (λ c. search needs)
+    (λ c. search needs)
     returns)

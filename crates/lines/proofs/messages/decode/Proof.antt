@@ -3,29 +3,8 @@ use borrow.Author.Needs.{needs}
 use Rattle.lines.proofs.messages.decode.Statement.{statement}
 use Rattle.lines.proofs.messages.decode.Tie as tie
 
-enum-known-numbers : tie.Need-enum-known-numbers
-enum-known-numbers c = search needs
-
-front-requires : tie.Need-front-requires
-front-requires c κs = search needs
-
-decode-with-requires : tie.Need-decode-with-requires
-decode-with-requires c κs = search needs
-
-enum-known-numbers-2 : tie.Need-enum-known-numbers-2
-enum-known-numbers-2 c = search needs
-
-refuse-requires : tie.Need-refuse-requires
-refuse-requires c κs = search needs
-
-same-length : tie.Need-same-length
-same-length c = search needs
-
 returns : tie.Need-returns
 returns c = rw (c .before .before .before .before .before .before .numbers .given .1, c .before .before .decode-with .ensures, c .before .before .before .before .front .ensures)
-
-same-length-2 : tie.Need-same-length-2
-same-length-2 c = search needs
 
 returns-2 : tie.Need-returns-2
 returns-2 c = rw (c .before .before .before .before .before .numbers2 .given .1, c .before .before .refuse .ensures)
@@ -34,12 +13,12 @@ pub decode-spec : {M : Type 1} → statement M
 decode-spec =
     tie.close
     (tie.spec
-    enum-known-numbers
-    front-requires
-    decode-with-requires
-    enum-known-numbers-2
-    refuse-requires
-    same-length
+    (λ c. search needs)
+    (λ c κs. search needs)
+    (λ c κs. search needs)
+    (λ c. search needs)
+    (λ c κs. search needs)
+    (λ c. search needs)
     returns
-    same-length-2
+    (λ c. search needs)
     returns-2)

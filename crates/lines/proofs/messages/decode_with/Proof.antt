@@ -10,12 +10,6 @@ use borrow.Author.Needs.{needs}
 use Rattle.lines.proofs.messages.decode_with.Statement.{statement}
 use Rattle.lines.proofs.messages.decode_with.Tie as tie
 
-filled-requires : tie.Need-filled-requires
-filled-requires c κs = search needs
-
-within-requires : tie.Need-within-requires
-within-requires c κs = search needs
-
 array-borrow-prefix-lent : tie.Need-array-borrow-prefix-lent
 array-borrow-prefix-lent c = omega (arith, c .within .ensures .1, c .before .filled .ensures .1)
 
@@ -26,12 +20,6 @@ slice-aggregate-decode-into c =
     let h : n .result ≤ length (s .result) = omega (arith, n .ensures .1, s .ensures .1) in
     sym (length-take-le (n .result) (s .result) h)
 
-decode-into-requires : tie.Need-decode-into-requires
-decode-into-requires c κs = search needs
-
-same-length : tie.Need-same-length
-same-length c = search needs
-
 returns : tie.Need-returns
 unfolding decodeWith lentOf
 returns c = rw (c .before .before .before .decode-into .ensures, c .before .before .before .before .before .before .within .ensures .0, c .before .before .before .before .before .before .before .filled .ensures .0)
@@ -40,10 +28,10 @@ pub decode-with-spec : {M : Type 1} → statement M
 decode-with-spec =
     tie.close
     (tie.spec
-    filled-requires
-    within-requires
+    (λ c κs. search needs)
+    (λ c κs. search needs)
     array-borrow-prefix-lent
     slice-aggregate-decode-into
-    decode-into-requires
-    same-length
+    (λ c κs. search needs)
+    (λ c. search needs)
     returns)

@@ -3,29 +3,8 @@ use borrow.Author.Needs.{needs}
 use Rattle.lines.proofs.phrases.flag.Statement.{statement}
 use Rattle.lines.proofs.phrases.flag.Tie as tie
 
-write-text-requires : tie.Need-write-text-requires
-write-text-requires c κs = search needs
-
-slice-aggregate-write-text : tie.Need-slice-aggregate-write-text
-slice-aggregate-write-text c = search needs
-
-write-text-requires-2 : tie.Need-write-text-requires-2
-write-text-requires-2 c κs = search needs
-
-slice-aggregate-write-text-2 : tie.Need-slice-aggregate-write-text-2
-slice-aggregate-write-text-2 c = search needs
-
-write-text-requires-3 : tie.Need-write-text-requires-3
-write-text-requires-3 c κs = search needs
-
-same-length : tie.Need-same-length
-same-length c = search needs
-
 returns : tie.Need-returns
 returns c = rw (c .before .before .write-text2 .ensures, c .before .before .before .before .before .before .before .before .write-text .ensures, c .before .before .before .before .before .if1 .taken)
-
-same-length-2 : tie.Need-same-length-2
-same-length-2 c = search needs
 
 returns-2 : tie.Need-returns-2
 returns-2 c = rw (c .before .before .write-text3 .ensures, c .before .before .before .before .before .before .before .before .write-text .ensures, c .before .before .before .before .before .if1 .left)
@@ -34,12 +13,12 @@ pub flag-spec : {M : Type 1} → statement M
 flag-spec =
     tie.close
     (tie.spec
-    write-text-requires
-    slice-aggregate-write-text
-    write-text-requires-2
-    slice-aggregate-write-text-2
-    write-text-requires-3
-    same-length
+    (λ c κs. search needs)
+    (λ c. search needs)
+    (λ c κs. search needs)
+    (λ c. search needs)
+    (λ c κs. search needs)
+    (λ c. search needs)
     returns
-    same-length-2
+    (λ c. search needs)
     returns-2)

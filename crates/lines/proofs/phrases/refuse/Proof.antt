@@ -3,77 +3,17 @@ use borrow.Author.Needs.{needs}
 use Rattle.lines.proofs.phrases.refuse.Statement.{statement}
 use Rattle.lines.proofs.phrases.refuse.Tie as tie
 
-enum-told : tie.Need-enum-told
-enum-told c = search needs
-
-slice-aggregate-write-text : tie.Need-slice-aggregate-write-text
-slice-aggregate-write-text c = search needs
-
-write-text-requires : tie.Need-write-text-requires
-write-text-requires c κs = search needs
-
-enum-told-2 : tie.Need-enum-told-2
-enum-told-2 c = search needs
-
-slice-aggregate-write-text-2 : tie.Need-slice-aggregate-write-text-2
-slice-aggregate-write-text-2 c = search needs
-
-write-text-requires-2 : tie.Need-write-text-requires-2
-write-text-requires-2 c κs = search needs
-
-enum-told-3 : tie.Need-enum-told-3
-enum-told-3 c = search needs
-
-slice-aggregate-write-text-3 : tie.Need-slice-aggregate-write-text-3
-slice-aggregate-write-text-3 c = search needs
-
-write-text-requires-3 : tie.Need-write-text-requires-3
-write-text-requires-3 c κs = search needs
-
-enum-told-4 : tie.Need-enum-told-4
-enum-told-4 c = search needs
-
-slice-aggregate-write-text-4 : tie.Need-slice-aggregate-write-text-4
-slice-aggregate-write-text-4 c = search needs
-
-write-text-requires-4 : tie.Need-write-text-requires-4
-write-text-requires-4 c κs = search needs
-
-enum-told-5 : tie.Need-enum-told-5
-enum-told-5 c = search needs
-
-slice-aggregate-write-text-5 : tie.Need-slice-aggregate-write-text-5
-slice-aggregate-write-text-5 c = search needs
-
-write-text-requires-5 : tie.Need-write-text-requires-5
-write-text-requires-5 c κs = search needs
-
-same-length : tie.Need-same-length
-same-length c = search needs
-
 returns : tie.Need-returns
 returns c = rw (c .before .before .before .before .before .enum-told .given .1, c .before .before .write-text .ensures)
-
-same-length-2 : tie.Need-same-length-2
-same-length-2 c = search needs
 
 returns-2 : tie.Need-returns-2
 returns-2 c = rw (c .before .before .before .before .before .enum-told2 .given .1, c .before .before .write-text2 .ensures)
 
-same-length-3 : tie.Need-same-length-3
-same-length-3 c = search needs
-
 returns-3 : tie.Need-returns-3
 returns-3 c = rw (c .before .before .before .before .before .enum-told3 .given .1, c .before .before .write-text3 .ensures)
 
-same-length-4 : tie.Need-same-length-4
-same-length-4 c = search needs
-
 returns-4 : tie.Need-returns-4
 returns-4 c = rw (c .before .before .before .before .before .enum-told4 .given .1, c .before .before .write-text4 .ensures)
-
-same-length-5 : tie.Need-same-length-5
-same-length-5 c = search needs
 
 returns-5 : tie.Need-returns-5
 returns-5 c = rw (c .before .before .before .before .before .enum-told5 .given .1, c .before .before .write-text5 .ensures)
@@ -82,28 +22,28 @@ pub refuse-spec : {M : Type 1} → statement M
 refuse-spec =
     tie.close
     (tie.spec
-    enum-told
-    slice-aggregate-write-text
-    write-text-requires
-    enum-told-2
-    slice-aggregate-write-text-2
-    write-text-requires-2
-    enum-told-3
-    slice-aggregate-write-text-3
-    write-text-requires-3
-    enum-told-4
-    slice-aggregate-write-text-4
-    write-text-requires-4
-    enum-told-5
-    slice-aggregate-write-text-5
-    write-text-requires-5
-    same-length
+    (λ c. search needs)
+    (λ c. search needs)
+    (λ c κs. search needs)
+    (λ c. search needs)
+    (λ c. search needs)
+    (λ c κs. search needs)
+    (λ c. search needs)
+    (λ c. search needs)
+    (λ c κs. search needs)
+    (λ c. search needs)
+    (λ c. search needs)
+    (λ c κs. search needs)
+    (λ c. search needs)
+    (λ c. search needs)
+    (λ c κs. search needs)
+    (λ c. search needs)
     returns
-    same-length-2
+    (λ c. search needs)
     returns-2
-    same-length-3
+    (λ c. search needs)
     returns-3
-    same-length-4
+    (λ c. search needs)
     returns-4
-    same-length-5
+    (λ c. search needs)
     returns-5)

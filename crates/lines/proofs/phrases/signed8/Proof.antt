@@ -7,14 +7,8 @@ use Rattle.lines.proofs.phrases.signed8.Tie as tie
 cast-signed : tie.Need-cast-signed
 cast-signed c = rw (toZ-ofZ (c .before .before .fits .value)) (sfits-widen tt (c .before .before .fits .value))
 
-signed-requires : tie.Need-signed-requires
-signed-requires c κs = search needs
-
-same-length : tie.Need-same-length
-same-length c = search needs
-
 returns : tie.Need-returns
 returns c = rw (c .before .before .signed .ensures, toZ-ofZ (c .before .before .before .before .before .before .fits .value), toZ-ofZ (sfits-widen tt (c .before .before .before .before .before .before .fits .value)))
 
 pub signed8-spec : {M : Type 1} → statement M
-signed8-spec = tie.close (tie.spec cast-signed signed-requires same-length returns)
+signed8-spec = tie.close (tie.spec cast-signed (λ c κs. search needs) (λ c. search needs) returns)

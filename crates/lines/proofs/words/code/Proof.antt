@@ -6,9 +6,6 @@ use borrow.Author.Needs.{needs}
 use Rattle.lines.proofs.words.code.Statement.{statement}
 use Rattle.lines.proofs.words.code.Tie as tie
 
-cast-result : tie.Need-cast-result
-cast-result c = search needs
-
 returns : tie.Need-returns
 unfolding code
 returns c = sym (min-eq-left (le-of-lt (c .if1 .taken)))
@@ -18,4 +15,4 @@ unfolding code
 returns-2 c = sym (min-eq-right (c .if1 .left))
 
 pub code-spec : {M : Type 1} → statement M
-code-spec = tie.close (tie.spec cast-result returns returns-2)
+code-spec = tie.close (tie.spec (λ c. search needs) returns returns-2)

@@ -5,12 +5,9 @@ use borrow.Author.Needs.{needs}
 use Rattle.lines.proofs.words.count.Statement.{statement}
 use Rattle.lines.proofs.words.count.Tie as tie
 
-cast-result : tie.Need-cast-result
-cast-result c = search needs
-
 returns : tie.Need-returns
 unfolding count
 returns c = refl
 
 pub count-spec : {M : Type 1} → statement M
-count-spec = tie.close (tie.spec cast-result returns)
+count-spec = tie.close (tie.spec (λ c. search needs) returns)

@@ -4,18 +4,6 @@ use borrow.Author.Needs.{needs}
 use Rattle.lines.proofs.words.decimals.Statement.{statement}
 use Rattle.lines.proofs.words.decimals.Tie as tie
 
-decimal-requires : tie.Need-decimal-requires
-decimal-requires c κs = search needs
-
-decimal-requires-2 : tie.Need-decimal-requires-2
-decimal-requires-2 c κs = search needs
-
-decimal-requires-3 : tie.Need-decimal-requires-3
-decimal-requires-3 c κs = search needs
-
-all-three-requires : tie.Need-all-three-requires
-all-three-requires c κs = search needs
-
 returns : tie.Need-returns
 unfolding decimals
 returns c = rw (c .all-three .ensures, c .before .decimal3 .ensures, c .before .before .decimal2 .ensures, c .before .before .before .decimal .ensures)
@@ -23,4 +11,4 @@ returns c = rw (c .all-three .ensures, c .before .decimal3 .ensures, c .before .
 pub decimals-spec : {M : Type 1} → statement M
 decimals-spec =
     tie.close
-    (tie.spec decimal-requires decimal-requires-2 decimal-requires-3 all-three-requires returns)
+    (tie.spec (λ c κs. search needs) (λ c κs. search needs) (λ c κs. search needs) (λ c κs. search needs) returns)

@@ -5,12 +5,9 @@ use borrow.Author.Needs.{needs}
 use Rattle.lines.proofs.words.octet.Statement.{statement}
 use Rattle.lines.proofs.words.octet.Tie as tie
 
-cast-result : tie.Need-cast-result
-cast-result c = search needs
-
 returns : tie.Need-returns
 unfolding octet
 returns c = refl
 
 pub octet-spec : {M : Type 1} → statement M
-octet-spec = tie.close (tie.spec cast-result returns)
+octet-spec = tie.close (tie.spec (λ c. search needs) returns)

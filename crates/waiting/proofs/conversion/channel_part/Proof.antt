@@ -7,9 +7,6 @@ use Rattle.waiting.proofs.Bounds.{most-product}
 use Rattle.waiting.proofs.conversion.channel_part.Statement.{statement}
 use Rattle.waiting.proofs.conversion.channel_part.Tie as tie
 
-samples-requires : tie.Need-samples-requires
-samples-requires c κs = search needs
-
 returns : tie.Need-returns
 unfolding channelPart
 returns c = (rw (← c .before .samples .ensures) (search cases), omega arith)
@@ -31,4 +28,4 @@ returns-2 c =
     (rw (← c .before .samples .ensures) (search cases), omega arith)
 
 pub channel-part-spec : {M : Type 1} → statement M
-channel-part-spec = tie.close (tie.spec samples-requires returns mul-result add-result returns-2)
+channel-part-spec = tie.close (tie.spec (λ c κs. search needs) returns mul-result add-result returns-2)

@@ -6,9 +6,6 @@ use Rattle.waiting.proofs.Bounds.{codes}
 use Rattle.waiting.proofs.conversion.wait.Statement.{statement}
 use Rattle.waiting.proofs.conversion.wait.Tie as tie
 
-are-codes-requires : tie.Need-are-codes-requires
-are-codes-requires c κs = search needs
-
 returns : tie.Need-returns
 unfolding waited
 returns c = search cases
@@ -31,15 +28,6 @@ channel-part-requires-3 c κs =
     let k = codes (a .temperature) (a .pressure) (a .humidity) (c .before .before .before .are-codes .ensures) (c .before .before .if1 .left) in
     search needs
 
-add-t10 : tie.Need-add-t10
-add-t10 c = search needs
-
-add-t11 : tie.Need-add-t11
-add-t11 c = search needs
-
-add-t12 : tie.Need-add-t12
-add-t12 c = search needs
-
 returns-2 : tie.Need-returns-2
 unfolding waited microseconds
 returns-2 c =
@@ -50,12 +38,12 @@ pub wait-spec : {M : Type 1} → statement M
 wait-spec =
     tie.close
     (tie.spec
-    are-codes-requires
+    (λ c κs. search needs)
     returns
     channel-part-requires
     channel-part-requires-2
     channel-part-requires-3
-    add-t10
-    add-t11
-    add-t12
+    (λ c. search needs)
+    (λ c. search needs)
+    (λ c. search needs)
     returns-2)

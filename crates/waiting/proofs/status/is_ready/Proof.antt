@@ -3,8 +3,5 @@ use borrow.Author.Needs.{needs}
 use Rattle.waiting.proofs.status.is_ready.Statement.{statement}
 use Rattle.waiting.proofs.status.is_ready.Tie as tie
 
-returns : tie.Need-returns
-returns c = search needs
-
 pub is-ready-spec : {M : Type 1} → statement M
-is-ready-spec = tie.close (tie.spec returns)
+is-ready-spec = tie.close (tie.spec (λ c. search needs))
