@@ -3,6 +3,8 @@
 ghost use mathlib.Core.Path.{_≡_};
 ghost use Prim.Native.Nat.{_<_};
 ghost use lib.ListN.{length};
+ghost use Rattle.compensation.specs.Compensation.{compensated};
+ghost use Rattle.told.specs.Told as keep;
 use compensation::Answer;
 use formulas::HumidityAnswer;
 use formulas::PressureAnswer;
@@ -11,7 +13,7 @@ use formulas::TemperatureAnswer;
 // A temperature is kept at its place.
 fn tell_temperature(a: TemperatureAnswer, told: &mut [i64])
     requires { ⌜ 2 < length (now told) ⌝ }
-    ensures { λ _. ⌜ length (now (told .exit)) ≡ length (now (told .entry)) ⌝ }
+    ensures { λ _. ⌜ now (told .exit) ≡ keep.withTemperature a 0 (now (told .entry)) ⌝ }
 {
     match a {
         TemperatureAnswer::Known { value, fine: _ } => told[0] = value as i64,
@@ -22,7 +24,7 @@ fn tell_temperature(a: TemperatureAnswer, told: &mut [i64])
 // A pressure is kept at its place.
 fn tell_pressure(a: PressureAnswer, told: &mut [i64])
     requires { ⌜ 2 < length (now told) ⌝ }
-    ensures { λ _. ⌜ length (now (told .exit)) ≡ length (now (told .entry)) ⌝ }
+    ensures { λ _. ⌜ now (told .exit) ≡ keep.withPressure a 1 (now (told .entry)) ⌝ }
 {
     match a {
         PressureAnswer::Known(value) => told[1] = value as i64,
@@ -33,7 +35,7 @@ fn tell_pressure(a: PressureAnswer, told: &mut [i64])
 // A humidity is kept at its place.
 fn tell_humidity(a: HumidityAnswer, told: &mut [i64])
     requires { ⌜ 2 < length (now told) ⌝ }
-    ensures { λ _. ⌜ length (now (told .exit)) ≡ length (now (told .entry)) ⌝ }
+    ensures { λ _. ⌜ now (told .exit) ≡ keep.withHumidity a 2 (now (told .entry)) ⌝ }
 {
     match a {
         HumidityAnswer::Known(value) => told[2] = value as i64,
@@ -41,17 +43,12 @@ fn tell_humidity(a: HumidityAnswer, told: &mut [i64])
     }
 }
 
-// The reading of two blocks and eight bytes, every channel enabled, and whether there were three places for it.
-// Its three numbers are kept in `told`: temperature, pressure, humidity. A channel with no value leaves its place.
-#[no_mangle]
-pub extern "C" fn speed_reading(one: &[u8], two: &[u8], bytes: &[u8], told: &mut [i64]) -> bool
-    ensures { λ r. ⌜ length (now (told .exit)) ≡ length (now (told .entry)) ⌝ }
+// A reading's three numbers: the last one first, while it is still in the machine's registers.
+fn tell(a: Answer, told: &mut [i64])
+    requires { ⌜ 2 < length (now told) ⌝ }
+    ensures { λ _. ⌜ now (told .exit) ≡ keep.withReading a 0 (now (told .entry)) ⌝ }
 {
-    if told.len() < 3 {
-        return false;
-    }
-    match compensation::compensate(one, two, bytes, 1, 1, 1) {
-        Answer::Refused(_) => {},
+    match a {
         Answer::Done(r) => {
             let humidity = r.humidity;
             let pressure = r.pressure;
@@ -60,6 +57,19 @@ pub extern "C" fn speed_reading(one: &[u8], two: &[u8], bytes: &[u8], told: &mut
             tell_pressure(pressure, told);
             tell_temperature(temperature, told);
         },
+        Answer::Refused(_) => {},
     }
+}
+
+// The reading of two blocks and eight bytes, every channel enabled, and whether there were three places for it.
+// Its three numbers are kept in `told`: temperature, pressure, humidity. A channel with no value leaves its place.
+#[no_mangle]
+pub extern "C" fn speed_reading(one: &[u8], two: &[u8], bytes: &[u8], told: &mut [i64]) -> bool
+    ensures { λ r. ⌜ (r, now (told .exit)) ≡ keep.one (compensated (now (one .entry)) (now (two .entry)) (now (bytes .entry)) 1 1 1) (now (told .entry)) ⌝ }
+{
+    if told.len() < 3 {
+        return false;
+    }
+    tell(compensation::compensate(one, two, bytes, 1, 1, 1), told);
     true
 }

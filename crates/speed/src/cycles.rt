@@ -1,7 +1,8 @@
 // One forced cycle of the machine, each event's answer looked at, as a driver would.
 ghost use mathlib.Core.Path.{_≡_};
-ghost use lib.ListN.{length};
+ghost use Rattle.speed.specs.Cycles as cycle;
 use machine::Machine;
+use machine::Outcome;
 
 // The machine after a cycle, and all bytes given so far, taken together.
 pub struct Ridden {
@@ -9,8 +10,21 @@ pub struct Ridden {
     pub seen: u8,
 }
 
-// Eight bytes of an open burst.
-fn take_eight(m: Machine, seen: u8) -> Ridden {
+// A cycle that an event has ended.
+fn stop(o: Outcome, seen: u8) -> Ridden
+    ensures { λ r. ⌜ r ≡ cycle.stopped o seen ⌝ }
+{
+    let machine = o.machine;
+    Ridden {
+        machine: machine,
+        seen: seen,
+    }
+}
+
+// The next eight bytes.
+fn take_eight(m: Machine, seen: u8) -> Ridden
+    ensures { λ r. ⌜ r ≡ cycle.given 8 m seen ⌝ }
+{
     let mut now = m;
     let mut all = seen;
     let mut i: u32 = 0;
@@ -26,36 +40,14 @@ fn take_eight(m: Machine, seen: u8) -> Ridden {
     }
 }
 
-// Write, finish, open, eight bytes and close.
-// The first event that is refused ends it.
-pub fn ride(m: Machine, seen: u8, f4: u8, t: u32, p: u32, h: u32, lent: &mut [u8]) -> Ridden
-    ensures { λ r. ⌜ length (now (lent .exit)) ≡ length (now (lent .entry)) ⌝ }
+// The burst is read whole and closed, if it could be opened.
+fn read_burst(opened: Outcome, seen: u8, lent: &mut [u8]) -> Ridden
+    ensures { λ r. ⌜ (r, now (lent .exit)) ≡ cycle.afterOpen opened seen (now (lent .entry)) ⌝ }
 {
-    let begun = events::write(m, paper::CTRL_MEAS, f4);
-    let running = begun.machine;
-    if begun.answer != paper::DONE {
-        return Ridden {
-            machine: running,
-            seen: seen,
-        };
-    }
-    let done = events::finish(running, t, p, h);
-    let shown = done.machine;
-    if done.answer != paper::DONE {
-        return Ridden {
-            machine: shown,
-            seen: seen,
-        };
-    }
-    let opened = events::open(shown, paper::FIRST_DATA);
-    let bursting = opened.machine;
     if opened.answer != paper::DONE {
-        return Ridden {
-            machine: bursting,
-            seen: seen,
-        };
+        return stop(opened, seen);
     }
-    let given = take_eight(bursting, seen);
+    let given = take_eight(opened.machine, seen);
     let all = given.seen;
     let closing = events::close(given.machine, lent);
     let closed = closing.machine;
@@ -63,4 +55,35 @@ pub fn ride(m: Machine, seen: u8, f4: u8, t: u32, p: u32, h: u32, lent: &mut [u8
         machine: closed,
         seen: all,
     }
+}
+
+// A burst is opened at the data, if the conversion could finish.
+fn read_finished(finished: Outcome, seen: u8, lent: &mut [u8]) -> Ridden
+    ensures { λ r. ⌜ (r, now (lent .exit)) ≡ cycle.afterFinish finished seen (now (lent .entry)) ⌝ }
+{
+    if finished.answer != paper::DONE {
+        return stop(finished, seen);
+    }
+    read_burst(
+        events::open(finished.machine, paper::FIRST_DATA),
+        seen,
+        lent,
+    )
+}
+
+// The conversion finishes, if F4 could be written.
+fn finish_written(written: Outcome, seen: u8, t: u32, p: u32, h: u32, lent: &mut [u8]) -> Ridden
+    ensures { λ r. ⌜ (r, now (lent .exit)) ≡ cycle.afterWrite written seen t p h (now (lent .entry)) ⌝ }
+{
+    if written.answer != paper::DONE {
+        return stop(written, seen);
+    }
+    read_finished(events::finish(written.machine, t, p, h), seen, lent)
+}
+
+// Write, finish, open, eight bytes and close.
+pub fn ride(m: Machine, seen: u8, f4: u8, t: u32, p: u32, h: u32, lent: &mut [u8]) -> Ridden
+    ensures { λ r. ⌜ (r, now (lent .exit)) ≡ cycle.ridden m seen f4 t p h (now (lent .entry)) ⌝ }
+{
+    finish_written(events::write(m, paper::CTRL_MEAS, f4), seen, t, p, h, lent)
 }

@@ -1,8 +1,10 @@
 // For the measurements of bench/speed alone: the library's work in the loops that are counted beside the C baseline's.
-// The promises say which places may change; what stands there is left to the library's own promises.
 ghost use mathlib.Core.Path.{_≡_};
-ghost use Prim.Native.Nat.{_/_, _≤_};
-ghost use lib.ListN.{length};
+ghost use Rattle.calibration.specs.Calibration.{calibrated};
+ghost use Rattle.machine.specs.State.{fresh};
+ghost use Rattle.machine.specs.Events.{copyingEnded};
+ghost use Rattle.told.specs.Told as keep;
+ghost use Rattle.speed.specs.Cycles.{cycled};
 
 mod cycles;
 mod readings;
@@ -13,7 +15,7 @@ use calibration::Calibration;
 // Of each reading three numbers are kept in `told`: temperature, pressure, humidity. A channel with no value leaves its place.
 #[no_mangle]
 pub extern "C" fn speed_readings(one: &[u8], two: &[u8], bytes: &[u8], told: &mut [i64]) -> usize
-    ensures { λ r. ⌜ (r ≤ length (now (bytes .entry)) / 8) × (length (now (told .exit)) ≡ length (now (told .entry))) ⌝ }
+    ensures { λ r. ⌜ (r, now (told .exit)) ≡ keep.day (calibrated (now (one .entry)) (now (two .entry))) (now (bytes .entry)) (now (told .entry)) ⌝ }
 {
     match calibration::calibrate(one, two) {
         Calibration::Refused(_) => 0,
@@ -25,7 +27,7 @@ pub extern "C" fn speed_readings(one: &[u8], two: &[u8], bytes: &[u8], told: &mu
 // It answers all bytes given, taken together by exclusive or; an event that is refused ends its cycle.
 #[no_mangle]
 pub extern "C" fn speed_cycles(n: u32, f4: u8, t: u32, p: u32, h: u32, lent: &mut [u8]) -> u8
-    ensures { λ r. ⌜ length (now (lent .exit)) ≡ length (now (lent .entry)) ⌝ }
+    ensures { λ r. ⌜ (r, now (lent .exit)) ≡ cycled n (copyingEnded fresh .machine) 0 f4 t p h (now (lent .entry)) ⌝ }
 {
     let ready = events::copied(events::fresh());
     let mut m = ready.machine;
