@@ -3,14 +3,14 @@ use Prim.Native.Nat.{ℕ, zero, suc, _+_, _-_, _*_, _/_, _≤_, _<_}
 use mathlib.Core.Path.{_≡_, refl, sym, _∙_}
 use mathlib.Core.Bool.{Bool, true, false, _&&_, true≢false}
 use native.Mathlib.Omega.{arith}
-use native.Mathlib.Nat.{mul-le-mul, lt-of-not-le, not-le-of-lt}
-use lib.Dec.{leb}
+use native.Mathlib.Nat.{le-trans, mul-le-mul, lt-of-not-le, not-le-of-lt}
+use lib.Dec.{ltb, leb}
 use lib.IntN.{ℤ, pos, negsuc, natAbs, _-ℤ_, _*ℤ_}
 use lib.Signed.{leZ, ltZ}
 use mir.Syntax.{w64}
 use mir.Val.{SFits}
 use borrow.Author.Tests.{ltb-true, leb-true}
-use Rattle.formulas.specs.Plain.{Usual, Dividing}
+use Rattle.formulas.specs.Plain.{Usual}
 use Rattle.formulas.proofs.Bounds.{split}
 
 pub both-true : (a b : Bool) → (a && b) ≡ true → (a ≡ true) × (b ≡ true)
@@ -20,12 +20,12 @@ both-true false b e = absurd (true≢false (sym e))
 
 -- ---- a square tells how far a number lies from zero
 
-root : (n : ℕ) → n * n < 268435456 → n ≤ 16383
-root n h = let k : n < 16384 = lt-of-not-le (λ l. not-le-of-lt h (mul-le-mul l l)) in omega arith
+root : (n k : ℕ) → n * n < k → k ≤ 268435456 → n ≤ 16383
+root n k h l = let m : n < 16384 = lt-of-not-le (λ t. not-le-of-lt h (le-trans l (mul-le-mul t t))) in omega arith
 
-pub square-is : (z : ℤ) → ltZ (z *ℤ z) (pos 268435456) ≡ true → natAbs z ≤ 16383
-square-is (pos n) e = root n (ltb-true (n * n) 268435456 e)
-square-is (negsuc n) e = root (suc n) (ltb-true (suc n * suc n) 268435456 e)
+pub square-is : (k : ℕ) (z : ℤ) → ltZ (z *ℤ z) (pos k) ≡ true → k ≤ 268435456 → natAbs z ≤ 16383
+square-is k (pos n) e l = root n k (ltb-true (n * n) k e) l
+square-is k (negsuc n) e l = root (suc n) k (ltb-true (suc n * suc n) k e) l
 
 -- two unsigned numbers near each other, and back
 near-are : (a b n : ℕ) → natAbs (pos a -ℤ pos b) ≤ n → (a ≤ b + n) × (b ≤ a + n)
@@ -51,31 +51,24 @@ and-true : (b : Bool) → b && true ≡ b
 and-true true = refl
 and-true false = refl
 
-pub inside-is : (n : ℕ) (z : ℤ) → inside n (suc n) z ≡ true → natAbs z ≤ suc n
-inside-is n (pos a) e = leb-true a (suc n) e
-inside-is n (negsuc a) e = let h = leb-true a n (sym (and-true (leb a n)) ∙ e) in omega arith
+pub inside-is : (n m : ℕ) (z : ℤ) → inside n m z ≡ true → {k : ℕ} → suc n ≤ k → m ≤ k → natAbs z ≤ k
+inside-is n m (pos a) e h l = let t = leb-true a m e in omega arith
+inside-is n m (negsuc a) e h l = let t = leb-true a n (sym (and-true (leb a n)) ∙ e) in omega arith
 
-pub usual-is : (z : ℤ) → inside 221999 478000 z ≡ true → Usual z
-usual-is (pos n) e =
-    let h = leb-true n 478000 e in
-    record { size = h; pressure = split n 128000 (λ z. natAbs z ≤ 350000) (λ l. omega arith) (λ l. omega arith); humidity = split n 76800 (λ z. natAbs z ≤ 401200) (λ l. omega arith) (λ l. omega arith) }
-usual-is (negsuc n) e =
-    let h = leb-true n 221999 (sym (and-true (leb n 221999)) ∙ e) in
+pub usual-is : (n m : ℕ) (z : ℤ) → inside n m z ≡ true → n ≤ 221999 → m ≤ 478000 → Usual z
+usual-is n m (pos a) e h l =
+    let t = leb-true a m e in
+    record { size = omega arith; pressure = split a 128000 (λ z. natAbs z ≤ 350000) (λ u. omega arith) (λ u. omega arith); humidity = split a 76800 (λ z. natAbs z ≤ 401200) (λ u. omega arith) (λ u. omega arith) }
+usual-is n m (negsuc a) e h l =
+    let t = leb-true a n (sym (and-true (leb a n)) ∙ e) in
     record { size = omega arith; pressure = omega arith; humidity = omega arith }
 
 -- ---- dividend and divisor
 
-from-zero : (x : ℤ) {n : ℕ} → leZ (pos 0) x ≡ true → ltZ x (pos n) ≡ true → natAbs x ≤ n
-from-zero (pos a) {n} e h = let l = ltb-true a n h in omega arith
-from-zero (negsuc a) e h = absurd (true≢false (sym e))
+pub from-zero : (n : ℕ) (x : ℤ) → (leZ (pos 0) x && ltZ x (pos n)) ≡ true → natAbs x ≤ n
+from-zero n (pos a) e = let l = ltb-true a n (both-true (leb 0 a) (ltb a n) e .1) in omega arith
+from-zero n (negsuc a) e = absurd (true≢false (sym e))
 
-at-least : (y : ℤ) {l : ℕ} → SFits w64 y → leZ (pos l) y ≡ true → (l ≤ natAbs y) × (natAbs y ≤ 9223372036854775807)
-at-least (pos a) {l} f e = let h = f .sfits in (leb-true l a e, omega arith)
-at-least (negsuc a) f e = absurd (true≢false (sym e))
-
-pub dividing-is : (x d : ℤ) → SFits w64 d → ((leZ (pos 0) x && ltZ x (pos 2251799813685248)) && leZ (pos 134217728) d) ≡ true → Dividing x d
-dividing-is x d f e =
-    let h = both-true (leZ (pos 0) x && ltZ x (pos 2251799813685248)) (leZ (pos 134217728) d) e in
-    let k = both-true (leZ (pos 0) x) (ltZ x (pos 2251799813685248)) (h .0) in
-    let l = at-least d f (h .1) in
-    record { dividend = from-zero x (k .0) (k .1); divisor = l .0; most = l .1 }
+pub at-least : (l : ℕ) (y : ℤ) → SFits w64 y → leZ (pos l) y ≡ true → (l ≤ natAbs y) × (natAbs y ≤ 9223372036854775807)
+at-least l (pos a) f e = let h = f .sfits in (leb-true l a e, omega arith)
+at-least l (negsuc a) f e = absurd (true≢false (sym e))

@@ -5,7 +5,7 @@ ghost use mathlib.Core.Bool.{true};
 ghost use Rattle.formulas.specs.Plain.{Near, Usual, Dividing, SmallWords, Small};
 use calibration::HumidityWords;
 
-// Whether a count's sixteenth lies within 16383 of T1, which is about 82 degrees either way.
+// Whether a count's sixteenth lies within 16383 of T1: within some 82 degrees of zero, on a usual chip.
 // Then the temperature's steps stay within 32 bits.
 pub fn is_near(t1: u16, count: u32) -> bool
     ensures { λ r. ⌜ (r ≡ true → Near t1 count) ⌝ }
@@ -40,7 +40,7 @@ pub fn are_small(words: HumidityWords) -> bool
         & (((-512 <= words.h5) & (words.h5 <= 512)) & ((-64 <= words.h6) & (words.h6 <= 64)))
 }
 
-// Whether the humidity's product is at most 2 to the 30 without its sign.
+// Whether the humidity's product is at most a thousand million without its sign.
 // Then its correction stays within 32 bits.
 pub fn is_small(product: i64) -> bool
     ensures { λ r. ⌜ (r ≡ true → Small product) ⌝ }

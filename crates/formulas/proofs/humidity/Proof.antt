@@ -1,7 +1,6 @@
 -- `formulas::humidity` meets its contract: where the guard holds the plain road answers, and else the checked one.
-use mathlib.Core.Bool.{_&&_}
 use mathlib.Core.Path.{_∙_}
-use lib.Dec.{leb}
+use native.Mathlib.Omega.{arith}
 use mir.Facts.{toZ-ofZ}
 use borrow.Author.Needs.{needs}
 use borrow.Author.Tests.{leb-true}
@@ -14,10 +13,10 @@ humidity-requires c κs =
     let w = c .before in
     let u = w .before in
     let s = u .before in
-    let r = u .is-usual .result in
-    let h = both-true (r && w .are-small .result) (leb (s .args .count) 65535) (c .if1 .taken) in
-    let k = both-true r (w .are-small .result) (h .0) in
-    (u .is-usual .ensures (k .0), (w .are-small .ensures (k .1), leb-true (s .args .count) 65535 (h .1)))
+    let h = both-true _ _ (c .if1 .taken) in
+    let k = both-true _ _ (h .0) in
+    let n = leb-true (s .args .count) _ (h .1) in
+    (u .is-usual .ensures (k .0), (w .are-small .ensures (k .1), omega arith))
 
 returns : tie.Need-returns
 returns c = let s = c .before .before .before .before in rw (toZ-ofZ (s .fits .fine)) at (c .humidity .ensures)

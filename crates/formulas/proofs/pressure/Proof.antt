@@ -1,7 +1,6 @@
 -- `formulas::pressure` meets its contract: where the guard holds the plain road answers, and else the checked one.
-use mathlib.Core.Bool.{_&&_}
 use mathlib.Core.Path.{_∙_}
-use lib.Dec.{leb}
+use native.Mathlib.Omega.{arith}
 use mir.Facts.{toZ-ofZ}
 use borrow.Author.Needs.{needs}
 use borrow.Author.Tests.{leb-true}
@@ -13,10 +12,11 @@ pressure-requires : tie.Need-pressure-requires
 pressure-requires c κs =
     let u = c .before .before in
     let s = u .before in
-    let r = u .is-usual .result in
-    let h = both-true (r && leb (s .args .words .p1) 45000) (leb (s .args .count) 1048576) (c .if1 .taken) in
-    let k = both-true r (leb (s .args .words .p1) 45000) (h .0) in
-    (u .is-usual .ensures (k .0), (leb-true (s .args .words .p1) 45000 (k .1), leb-true (s .args .count) 1048576 (h .1)))
+    let h = both-true _ _ (c .if1 .taken) in
+    let k = both-true _ _ (h .0) in
+    let p = leb-true (s .args .words .p1) _ (k .1) in
+    let n = leb-true (s .args .count) _ (h .1) in
+    (u .is-usual .ensures (k .0), (omega arith, omega arith))
 
 returns : tie.Need-returns
 returns c = let s = c .before .before .before .before in rw (toZ-ofZ (s .fits .fine)) at (c .pressure .ensures)

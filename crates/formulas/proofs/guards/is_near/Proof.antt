@@ -33,7 +33,7 @@ returns c e =
     let t = back (natural {w = Bits64} {m = 65535} (c .args .t1) (omega arith) refl) in
     let d = back (distance c) in
     let s = back (times (distance c) (distance c) refl) in
-    record { size = square-is (pos (c .args .count / 16) -ℤ pos (c .args .t1)) (rw (s, d, n, t) at e) }
+    record { size = square-is _ (pos (c .args .count / 16) -ℤ pos (c .args .t1)) (rw (s, d, n, t) at e) (omega arith) }
 
 pub is-near-spec : {M : Type 1} → statement M
 is-near-spec = tie.close (tie.spec (λ c. search needs) (λ c. search needs) sub-distance mul-result returns)

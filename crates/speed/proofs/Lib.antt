@@ -1,0 +1,2 @@
+-- What more than one proof of the measurements cites.
+pub mod Lengths

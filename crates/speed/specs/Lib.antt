@@ -1,0 +1,2 @@
+-- Forced cycles of the machine.
+pub mod Cycles

@@ -1,0 +1,2 @@
+-- What the measurements keep of a reading, and of many.
+pub mod Told
