@@ -1,11 +1,12 @@
 // One side of a measurement, or both held to each other:
-//   speed library|maker loop|single real|junk ROUNDS    the readings ROUNDS times over
-//   speed compare loop|single real|junk                 both once: how many channels agree, how many the library refused
-//   speed library cycle ROUNDS                          the machine's forced cycles ROUNDS times over
+//   speed library|maker loop|single|c real|junk ROUNDS    the readings ROUNDS times over
+//   speed compare loop|single|c real|junk                 both once: how many channels agree, how many the library refused
+//   speed library cycle ROUNDS                            the machine's forced cycles ROUNDS times over
 // A round is 1,440 readings, a day with one a minute, or as many cycles. loop: the words are decoded once a round; single: each
-// reading is a call from the raw blocks. All that a round reads is made before the first, so that the difference of two runs is
-// the rounds' own work.
+// reading is a call from the raw blocks; c: a call of the library for C. All that a round reads is made before the first, so that
+// the difference of two runs is the rounds' own work.
 #include "maker.h"
+#include <onegrish.h>
 #include <stdio.h>
 
 int strcmp(const char *, const char *);
@@ -47,7 +48,7 @@ static void lay(uint8_t *to, uint32_t t, uint32_t p, uint32_t h) {
     to[6] = h >> 8, to[7] = h;
 }
 
-// A day in an old house: about 4 to 31 degrees, 960 to 1060 hPa, 25 to 80 %RH.
+// A day in an old house: 4.8 to 31.1 degrees, 959 to 1050 hPa, 24 to 81 %RH.
 static void make_real(void) {
     for (uint32_t i = 0; i < READINGS; i++) {
         __builtin_memcpy(one[i], CHIP_ONE, 26);
@@ -78,6 +79,16 @@ static void maker_loop(void) {
 static void library_single(void) {
     for (size_t i = 0; i < READINGS; i++)
         speed_reading(one[i], 26, two[i], 7, data[i], 8, by_library + 3 * i, 3);
+}
+
+// The call of the library for C hands over the channels' numbers and the fine temperature too.
+static void library_c(void) {
+    for (size_t i = 0; i < READINGS; i++) {
+        uint8_t numbers[3];
+        int64_t values[4] = {NONE, NONE, NONE, NONE};
+        onegrish_compensate(one[i], 26, two[i], 7, data[i], 8, 1, 1, 1, numbers, 3, values, 4);
+        by_library[3 * i] = values[0], by_library[3 * i + 1] = values[2], by_library[3 * i + 2] = values[3];
+    }
 }
 
 static void maker_single(void) {
@@ -114,12 +125,12 @@ int main(int argc, char **argv) {
     if (argc == 4 && !strcmp(argv[2], "cycle"))
         return run_cycles(atoi(argv[3]));
     if (argc < 4) {
-        printf("usage: speed library|maker|compare loop|single real|junk [ROUNDS]\n");
+        printf("usage: speed library|maker|compare loop|single|c real|junk [ROUNDS]\n");
         return 2;
     }
-    int single = !strcmp(argv[2], "single");
-    void (*library)(void) = single ? library_single : library_loop;
-    void (*maker)(void) = single ? maker_single : maker_loop;
+    int loop = !strcmp(argv[2], "loop");
+    void (*library)(void) = loop ? library_loop : !strcmp(argv[2], "c") ? library_c : library_single;
+    void (*maker)(void) = loop ? maker_loop : maker_single;
     if (!strcmp(argv[3], "junk")) make_junk();
     else make_real();
     if (!strcmp(argv[1], "compare"))
