@@ -107,7 +107,7 @@ fn main() {
     let mut line = [0u8; HELD];
     let mut out = io::large_buffer();
     let first = Bench {
-        machine: events::fresh(),
+        machine: start::fresh(),
         held: 0,
         at: 0,
     };

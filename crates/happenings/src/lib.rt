@@ -30,7 +30,7 @@ pub fn fresh(out: &mut [u8], at: usize) -> Answered
     ensures { λ r. ⌜ (r .machine, (now (out .exit), r .at)) ≡ happenings.fresh (now (out .entry), at) ⌝ }
 {
     Answered {
-        machine: events::fresh(),
+        machine: start::fresh(),
         at: phrases::number(paper::DONE, out, at),
     }
 }
@@ -48,7 +48,7 @@ fn fresh_counted(number: Number, m: Machine, out: &mut [u8], at: usize) -> Answe
 {
     match number {
         Number::Value(n) => Answered {
-            machine: events::fresh_after(words::count(n)),
+            machine: start::fresh_after(words::count(n)),
             at: phrases::number(paper::DONE, out, at),
         },
         Number::Refused(reason) => stay(m, phrases::refuse(reason, out, at)),
@@ -59,21 +59,21 @@ fn fresh_counted(number: Number, m: Machine, out: &mut [u8], at: usize) -> Answe
 pub fn power(m: Machine, out: &mut [u8], at: usize) -> Answered
     ensures { λ r. ⌜ (r .machine, (now (out .exit), r .at)) ≡ happenings.power m (now (out .entry), at) ⌝ }
 {
-    tell_outcome(events::power(m), out, at)
+    tell_outcome(start::power(m), out, at)
 }
 
 // copied
 pub fn copied(m: Machine, out: &mut [u8], at: usize) -> Answered
     ensures { λ r. ⌜ (r .machine, (now (out .exit), r .at)) ≡ happenings.copied m (now (out .entry), at) ⌝ }
 {
-    tell_outcome(events::copied(m), out, at)
+    tell_outcome(start::copied(m), out, at)
 }
 
 // wake
 pub fn wake(m: Machine, out: &mut [u8], at: usize) -> Answered
     ensures { λ r. ⌜ (r .machine, (now (out .exit), r .at)) ≡ happenings.wake m (now (out .entry), at) ⌝ }
 {
-    tell_outcome(events::wake(m), out, at)
+    tell_outcome(finishing::wake(m), out, at)
 }
 
 // write REG VALUE
@@ -94,7 +94,7 @@ fn write_read(numbers: Two, m: Machine, out: &mut [u8], at: usize) -> Answered
 {
     match numbers {
         Two::Values(register, value) => tell_outcome(
-            events::write(m, words::octet(register), words::octet(value)),
+            writing::write(m, words::octet(register), words::octet(value)),
             out,
             at,
         ),
@@ -115,7 +115,7 @@ fn finish_read(numbers: Three, m: Machine, out: &mut [u8], at: usize) -> Answere
 {
     match numbers {
         Three::Values(t, p, h) => tell_outcome(
-            events::finish(m, words::count(t), words::count(p), words::count(h)),
+            finishing::finish(m, words::count(t), words::count(p), words::count(h)),
             out,
             at,
         ),
@@ -135,7 +135,7 @@ fn open_read(address: Number, m: Machine, out: &mut [u8], at: usize) -> Answered
     ensures { λ r. ⌜ (r .machine, (now (out .exit), r .at)) ≡ happenings.openRead address m (now (out .entry), at) ⌝ }
 {
     match address {
-        Number::Value(n) => tell_outcome(events::open(m, words::octet(n)), out, at),
+        Number::Value(n) => tell_outcome(bursts::open(m, words::octet(n)), out, at),
         Number::Refused(reason) => stay(m, phrases::refuse(reason, out, at)),
     }
 }
@@ -155,7 +155,7 @@ fn tell_outcome(outcome: Outcome, out: &mut [u8], at: usize) -> Answered
 pub fn byte(m: Machine, out: &mut [u8], at: usize) -> Answered
     ensures { λ r. ⌜ (r .machine, (now (out .exit), r .at)) ≡ happenings.byte m (now (out .entry), at) ⌝ }
 {
-    tell_given(events::byte(m), out, at)
+    tell_given(bursts::byte(m), out, at)
 }
 
 // Writes the number, and where it is done the register's value.
@@ -203,7 +203,7 @@ fn close_with(length: usize, m: Machine, out: &mut [u8], at: usize) -> Answered
 fn close_into(m: Machine, lent: &mut [u8], out: &mut [u8], at: usize) -> Answered
     ensures { λ r. ⌜ (r .machine, (now (out .exit), r .at)) ≡ happenings.closeInto m (now (lent .entry)) (now (out .entry), at) ⌝ }
 {
-    let closing = events::close(m, lent);
+    let closing = bursts::close(m, lent);
     let machine = closing.machine;
     let next = tell_closing(closing, out, at);
     Answered {
@@ -251,7 +251,7 @@ fn tell_codes(codes: Codes, out: &mut [u8], at: usize) -> usize
 pub fn ledger(m: Machine, out: &mut [u8], at: usize) -> Answered
     ensures { λ r. ⌜ (r .machine, (now (out .exit), r .at)) ≡ happenings.ledger m (now (out .entry), at) ⌝ }
 {
-    let tally = events::tally(m);
+    let tally = conversions::tally(m);
     let next = tell_counts(tally, out, at);
     stay(m, tell_standing(tally, out, next))
 }

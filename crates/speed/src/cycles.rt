@@ -29,7 +29,7 @@ fn take_eight(m: Machine, seen: u8) -> Ridden
     let mut all = seen;
     let mut i: u32 = 0;
     while i < 8 {
-        let given = events::byte(now);
+        let given = bursts::byte(now);
         now = given.machine;
         all = all ^ given.value;
         i += 1;
@@ -49,7 +49,7 @@ fn read_burst(opened: Outcome, seen: u8, lent: &mut [u8]) -> Ridden
     }
     let given = take_eight(opened.machine, seen);
     let all = given.seen;
-    let closing = events::close(given.machine, lent);
+    let closing = bursts::close(given.machine, lent);
     let closed = closing.machine;
     Ridden {
         machine: closed,
@@ -65,7 +65,7 @@ fn read_finished(finished: Outcome, seen: u8, lent: &mut [u8]) -> Ridden
         return stop(finished, seen);
     }
     read_burst(
-        events::open(finished.machine, paper::FIRST_DATA),
+        bursts::open(finished.machine, paper::FIRST_DATA),
         seen,
         lent,
     )
@@ -78,12 +78,12 @@ fn finish_written(written: Outcome, seen: u8, t: u32, p: u32, h: u32, lent: &mut
     if written.answer != paper::DONE {
         return stop(written, seen);
     }
-    read_finished(events::finish(written.machine, t, p, h), seen, lent)
+    read_finished(finishing::finish(written.machine, t, p, h), seen, lent)
 }
 
 // Write, finish, open, eight bytes and close.
 pub fn ride(m: Machine, seen: u8, f4: u8, t: u32, p: u32, h: u32, lent: &mut [u8]) -> Ridden
     ensures { λ r. ⌜ (r, now (lent .exit)) ≡ cycle.ridden m seen f4 t p h (now (lent .entry)) ⌝ }
 {
-    finish_written(events::write(m, paper::CTRL_MEAS, f4), seen, t, p, h, lent)
+    finish_written(writing::write(m, paper::CTRL_MEAS, f4), seen, t, p, h, lent)
 }

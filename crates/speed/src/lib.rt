@@ -29,7 +29,7 @@ pub extern "C" fn speed_readings(one: &[u8], two: &[u8], bytes: &[u8], told: &mu
 pub extern "C" fn speed_cycles(n: u32, f4: u8, t: u32, p: u32, h: u32, lent: &mut [u8]) -> u8
     ensures { λ r. ⌜ (r, now (lent .exit)) ≡ cycled n (copyingEnded fresh .machine) 0 f4 t p h (now (lent .entry)) ⌝ }
 {
-    let ready = events::copied(events::fresh());
+    let ready = start::copied(start::fresh());
     let mut m = ready.machine;
     let mut seen: u8 = 0;
     let mut i: u32 = 0;
