@@ -19,9 +19,9 @@ use Rattle.formulas.specs.declared.PressureAnswer.{PressureAnswer}
 use Rattle.formulas.specs.declared.PressureAnswer.the-variants as press
 use Rattle.formulas.specs.declared.HumidityAnswer.{HumidityAnswer}
 use Rattle.formulas.specs.declared.HumidityAnswer.the-variants as damp
-use Rattle.formulas.specs.Temperature as temperature
-use Rattle.formulas.specs.Pressure as pressure
-use Rattle.formulas.specs.Humidity as humidity
+use Rattle.temperature.specs.Temperature as temperature
+use Rattle.pressure.specs.Pressure as pressure
+use Rattle.humidity.specs.Humidity as humidity
 use Rattle.compensation.specs.declared.Reading.{Reading}
 use Rattle.compensation.specs.declared.Answer as comp
 use Rattle.compensation.specs.declared.Answer.the-variants as whole
