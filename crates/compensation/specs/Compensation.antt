@@ -19,9 +19,9 @@ use Rattle.formulas.specs.declared.PressureAnswer.{PressureAnswer}
 use Rattle.formulas.specs.declared.PressureAnswer.the-variants as press
 use Rattle.formulas.specs.declared.HumidityAnswer.{HumidityAnswer}
 use Rattle.formulas.specs.declared.HumidityAnswer.the-variants as damp
-use Rattle.formulas.specs.Temperature.{temperatureOf}
-use Rattle.formulas.specs.Pressure.{pressureOf}
-use Rattle.formulas.specs.Humidity.{humidityOf}
+use Rattle.temperature.specs.Temperature.{temperatureOf}
+use Rattle.pressure.specs.Pressure.{pressureOf}
+use Rattle.humidity.specs.Humidity.{humidityOf}
 use Rattle.compensation.specs.declared.Counts.{Counts}
 use Rattle.compensation.specs.declared.Reading.{Reading}
 use Rattle.compensation.specs.declared.Answer.{Answer}

@@ -18,7 +18,7 @@ fn temperature(t: u8, words: TemperatureWords, count: u32) -> TemperatureAnswer
     if t == 0 {
         TemperatureAnswer::Missing(paper::SKIPPED)
     } else {
-        formulas::temperature(words, count)
+        temperature::temperature(words, count)
     }
 }
 
@@ -29,7 +29,7 @@ fn pressure_at(heat: TemperatureAnswer, words: PressureWords, count: u32) -> Pre
 {
     match heat {
         TemperatureAnswer::Missing(_) => PressureAnswer::Missing(paper::NO_TEMPERATURE),
-        TemperatureAnswer::Known { value: _, fine } => formulas::pressure(words, fine, count),
+        TemperatureAnswer::Known { value: _, fine } => pressure::pressure(words, fine, count),
     }
 }
 
@@ -51,7 +51,7 @@ fn humidity_at(heat: TemperatureAnswer, words: HumidityWords, count: u32) -> Hum
 {
     match heat {
         TemperatureAnswer::Missing(_) => HumidityAnswer::Missing(paper::NO_TEMPERATURE),
-        TemperatureAnswer::Known { value: _, fine } => formulas::humidity(words, fine, count),
+        TemperatureAnswer::Known { value: _, fine } => humidity::humidity(words, fine, count),
     }
 }
 

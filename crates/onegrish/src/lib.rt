@@ -9,22 +9,23 @@ ghost use Rattle.bus.specs.declared.Bus.the-variants.{I2c, Spi};
 ghost use Rattle.bus.specs.declared.Device.the-variants.{At, Selected};
 ghost use Rattle.bus.specs.Writing.{encodedWrite, decodedWrite};
 ghost use Rattle.bus.specs.Reading.{encodedRead};
-ghost use Rattle.onegrish.specs.Lent as into;
-
-mod messages; // bus bytes
-mod readings; // words, channels
-mod times; // waiting and polling
-
+ghost use Rattle.laying.specs.Laid.{wordsInto, readingInto};
+ghost use Rattle.handing.specs.Handed.{numberInto, placeInto, pollsOf};
+ghost use Rattle.onegrish.specs.Lent.{bytesInto, pairsInto};
 use bus::Bus;
 use bus::Device;
+use handing::messages;
+use handing::times;
+use laying::channels;
+use laying::words;
 
 // The 18 words T1 to T3, P1 to P9, H1 to H6 of the two calibration blocks, at the front of `words`.
 // 2 for blocks that are not 26 and 7 bytes long, then 9 for fewer than 18 places.
 #[no_mangle]
 pub extern "C" fn onegrish_words(one: &[u8], two: &[u8], words: &mut [i32]) -> u8
-    ensures { λ r. ⌜ (r, now (words .exit)) ≡ into.wordsInto (calibrated (now (one .entry)) (now (two .entry))) (now (words .entry)) ⌝ }
+    ensures { λ r. ⌜ (r, now (words .exit)) ≡ wordsInto (calibrated (now (one .entry)) (now (two .entry))) (now (words .entry)) ⌝ }
 {
-    readings::hand_words(calibration::calibrate(one, two), words)
+    words::hand_words(calibration::calibrate(one, two), words)
 }
 
 // One reading: its channels' numbers at the front of `numbers`, and at the front of `values` the temperature, the fine
@@ -41,9 +42,9 @@ pub extern "C" fn onegrish_compensate(
     numbers: &mut [u8],
     values: &mut [i64],
 ) -> u8
-    ensures { λ r. ⌜ (r, now (numbers .exit), now (values .exit)) ≡ into.readingInto (compensated (now (one .entry)) (now (two .entry)) (now (bytes .entry)) t p h) (now (numbers .entry)) (now (values .entry)) ⌝ }
+    ensures { λ r. ⌜ (r, now (numbers .exit), now (values .exit)) ≡ readingInto (compensated (now (one .entry)) (now (two .entry)) (now (bytes .entry)) t p h) (now (numbers .entry)) (now (values .entry)) ⌝ }
 {
-    readings::hand_reading(
+    channels::hand_reading(
         compensation::compensate(one, two, bytes, t, p, h),
         numbers,
         values,
@@ -54,7 +55,7 @@ pub extern "C" fn onegrish_compensate(
 // 7 for a code above 7.
 #[no_mangle]
 pub extern "C" fn onegrish_maximum_wait(t: u8, p: u8, h: u8, microseconds: &mut u32) -> u8
-    ensures { λ r. ⌜ (r, now (microseconds .exit)) ≡ into.numberInto (waited maximum t p h) (now (microseconds .entry)) ⌝ }
+    ensures { λ r. ⌜ (r, now (microseconds .exit)) ≡ numberInto (waited maximum t p h) (now (microseconds .entry)) ⌝ }
 {
     times::hand_wait(waiting::maximum_wait(t, p, h), microseconds)
 }
@@ -63,7 +64,7 @@ pub extern "C" fn onegrish_maximum_wait(t: u8, p: u8, h: u8, microseconds: &mut 
 // 7 for a code above 7.
 #[no_mangle]
 pub extern "C" fn onegrish_typical_wait(t: u8, p: u8, h: u8, microseconds: &mut u32) -> u8
-    ensures { λ r. ⌜ (r, now (microseconds .exit)) ≡ into.numberInto (waited typical t p h) (now (microseconds .entry)) ⌝ }
+    ensures { λ r. ⌜ (r, now (microseconds .exit)) ≡ numberInto (waited typical t p h) (now (microseconds .entry)) ⌝ }
 {
     times::hand_wait(waiting::typical_wait(t, p, h), microseconds)
 }
@@ -72,7 +73,7 @@ pub extern "C" fn onegrish_typical_wait(t: u8, p: u8, h: u8, microseconds: &mut 
 // 17 where none is ready before the bytes or the allowance run out.
 #[no_mangle]
 pub extern "C" fn onegrish_poll(status: &[u8], allowance: usize, place: &mut usize) -> u8
-    ensures { λ r. ⌜ (r, now (place .exit)) ≡ into.placeInto (polled (now (status .entry)) allowance) (now (place .entry)) ⌝ }
+    ensures { λ r. ⌜ (r, now (place .exit)) ≡ placeInto (polled (now (status .entry)) allowance) (now (place .entry)) ⌝ }
 {
     times::hand_place(waiting::poll(status, allowance), place)
 }
@@ -80,7 +81,7 @@ pub extern "C" fn onegrish_poll(status: &[u8], allowance: usize, place: &mut usi
 // How many polls that took, whether a byte was ready or not.
 #[no_mangle]
 pub extern "C" fn onegrish_polls(status: &[u8], allowance: usize) -> usize
-    ensures { λ r. ⌜ r ≡ into.pollsOf (polled (now (status .entry)) allowance) ⌝ }
+    ensures { λ r. ⌜ r ≡ pollsOf (polled (now (status .entry)) allowance) ⌝ }
 {
     times::polls_made(waiting::poll(status, allowance))
 }
@@ -94,7 +95,7 @@ pub extern "C" fn onegrish_i2c_write(
     lent: &mut [u8],
     length: &mut usize,
 ) -> u8
-    ensures { λ r. ⌜ (r, now (length .exit), now (lent .exit)) ≡ into.bytesInto (encodedWrite (At address) (now (pairs .entry)) (now (lent .entry))) (now (length .entry)) ⌝ }
+    ensures { λ r. ⌜ (r, now (length .exit), now (lent .exit)) ≡ bytesInto (encodedWrite (At address) (now (pairs .entry)) (now (lent .entry))) (now (length .entry)) ⌝ }
 {
     messages::hand_length(bus::encode_write(Device::At(address), pairs, lent), length)
 }
@@ -103,7 +104,7 @@ pub extern "C" fn onegrish_i2c_write(
 // 15, 4 for registers, 9.
 #[no_mangle]
 pub extern "C" fn onegrish_spi_write(pairs: &[u8], lent: &mut [u8], length: &mut usize) -> u8
-    ensures { λ r. ⌜ (r, now (length .exit), now (lent .exit)) ≡ into.bytesInto (encodedWrite Selected (now (pairs .entry)) (now (lent .entry))) (now (length .entry)) ⌝ }
+    ensures { λ r. ⌜ (r, now (length .exit), now (lent .exit)) ≡ bytesInto (encodedWrite Selected (now (pairs .entry)) (now (lent .entry))) (now (length .entry)) ⌝ }
 {
     messages::hand_length(bus::encode_write(Device::Selected, pairs, lent), length)
 }
@@ -117,7 +118,7 @@ pub extern "C" fn onegrish_i2c_read(
     lent: &mut [u8],
     length: &mut usize,
 ) -> u8
-    ensures { λ r. ⌜ (r, now (length .exit), now (lent .exit)) ≡ into.bytesInto (encodedRead (At address) register (now (lent .entry))) (now (length .entry)) ⌝ }
+    ensures { λ r. ⌜ (r, now (length .exit), now (lent .exit)) ≡ bytesInto (encodedRead (At address) register (now (lent .entry))) (now (length .entry)) ⌝ }
 {
     messages::hand_length(
         bus::encode_read(Device::At(address), register, lent),
@@ -129,7 +130,7 @@ pub extern "C" fn onegrish_i2c_read(
 // 4 for the register, 9.
 #[no_mangle]
 pub extern "C" fn onegrish_spi_read(register: u8, lent: &mut [u8], length: &mut usize) -> u8
-    ensures { λ r. ⌜ (r, now (length .exit), now (lent .exit)) ≡ into.bytesInto (encodedRead Selected register (now (lent .entry))) (now (length .entry)) ⌝ }
+    ensures { λ r. ⌜ (r, now (length .exit), now (lent .exit)) ≡ bytesInto (encodedRead Selected register (now (lent .entry))) (now (length .entry)) ⌝ }
 {
     messages::hand_length(bus::encode_read(Device::Selected, register, lent), length)
 }
@@ -143,7 +144,7 @@ pub extern "C" fn onegrish_i2c_decode(
     address: &mut u8,
     length: &mut usize,
 ) -> u8
-    ensures { λ r. ⌜ (r, now (address .exit), now (length .exit), now (lent .exit)) ≡ into.pairsInto (decodedWrite I2c (now (bytes .entry)) (now (lent .entry))) (now (address .entry)) (now (length .entry)) ⌝ }
+    ensures { λ r. ⌜ (r, now (address .exit), now (length .exit), now (lent .exit)) ≡ pairsInto (decodedWrite I2c (now (bytes .entry)) (now (lent .entry))) (now (address .entry)) (now (length .entry)) ⌝ }
 {
     messages::hand_pairs(bus::decode_write(Bus::I2c, bytes, lent), address, length)
 }
@@ -152,7 +153,7 @@ pub extern "C" fn onegrish_i2c_decode(
 // 16, 15, 4, 9.
 #[no_mangle]
 pub extern "C" fn onegrish_spi_decode(bytes: &[u8], lent: &mut [u8], length: &mut usize) -> u8
-    ensures { λ r. ⌜ (r, now (length .exit), now (lent .exit)) ≡ into.bytesInto (decodedWrite Spi (now (bytes .entry)) (now (lent .entry))) (now (length .entry)) ⌝ }
+    ensures { λ r. ⌜ (r, now (length .exit), now (lent .exit)) ≡ bytesInto (decodedWrite Spi (now (bytes .entry)) (now (lent .entry))) (now (length .entry)) ⌝ }
 {
     messages::hand_pairs_length(bus::decode_write(Bus::Spi, bytes, lent), length)
 }

@@ -14,9 +14,9 @@ use Rattle.calibration.specs.declared.Words.{Words}
 use Rattle.calibration.specs.Calibration.{humidityWords}
 use Rattle.formulas.specs.declared.TemperatureAnswer.{TemperatureAnswer}
 use Rattle.formulas.specs.declared.TemperatureAnswer.the-variants as heat
-use Rattle.formulas.specs.Temperature as t
-use Rattle.formulas.specs.Pressure as p
-use Rattle.formulas.specs.Humidity as h
+use Rattle.temperature.specs.Temperature as t
+use Rattle.pressure.specs.Pressure as p
+use Rattle.humidity.specs.Humidity as h
 use Rattle.compensation.specs.Compensation.{pressureAt, humidityAt, reading}
 use Rattle.waiting.specs.Waiting as w
 use Rattle.waiting.specs.Polling as poll
