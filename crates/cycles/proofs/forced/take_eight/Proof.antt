@@ -1,4 +1,4 @@
--- `speed::cycles::take_eight` meets its contract: the bytes taken and those still to take are eight together.
+-- `cycles::forced::take_eight` meets its contract: the bytes taken and those still to take are eight together.
 use Prim.Native.Nat.{ℕ, suc, _+_, _-_, _≤_, _<_}
 use mathlib.Core.Path.{_≡_, refl, _∙_}
 use native.Mathlib.Omega.{arith}
@@ -7,9 +7,9 @@ use borrow.Author.Needs.{needs}
 use Rattle.machine.specs.declared.Machine.{Machine}
 use Rattle.machine.specs.declared.Given.{Given}
 use Rattle.machine.specs.Events.{byteGiven}
-use Rattle.speed.specs.Cycles.{given}
-use Rattle.speed.proofs.cycles.take_eight.Statement.{statement}
-use Rattle.speed.proofs.cycles.take_eight.Tie as tie
+use Rattle.cycles.specs.Cycles.{given}
+use Rattle.cycles.proofs.forced.take_eight.Statement.{statement}
+use Rattle.cycles.proofs.forced.take_eight.Tie as tie
 
 one-more : (m : Machine) (seen i : ℕ) (g : Given) → i < 8 → g ≡ byteGiven m → given (8 - (i + 1)) (g .machine) (bitXor seen (g .value)) ≡ given (8 - i) m seen
 unfolding given

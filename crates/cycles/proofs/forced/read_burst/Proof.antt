@@ -1,14 +1,14 @@
--- `speed::cycles::read_burst` meets its contract: a burst that could not be opened ends the cycle; any other gives its eight bytes and is closed.
+-- `cycles::forced::read_burst` meets its contract: a burst that could not be opened ends the cycle; any other gives its eight bytes and is closed.
 use Prim.Native.Nat.{ℕ}
 use mathlib.Core.Path.{ap, _∙_}
 use mathlib.Core.List.{List}
 use borrow.Author.Needs.{needs}
 use Rattle.laws.specs.Cases.{eq-yes, eq-no}
 use Rattle.machine.specs.declared.Closing.{Closing}
-use Rattle.speed.specs.declared.cycles.Ridden.{Ridden}
-use Rattle.speed.specs.Cycles.{closedAfter, afterOpen}
-use Rattle.speed.proofs.cycles.read_burst.Statement.{statement}
-use Rattle.speed.proofs.cycles.read_burst.Tie as tie
+use Rattle.cycles.specs.declared.forced.Ridden.{Ridden}
+use Rattle.cycles.specs.Cycles.{closedAfter, afterOpen}
+use Rattle.cycles.proofs.forced.read_burst.Statement.{statement}
+use Rattle.cycles.proofs.forced.read_burst.Tie as tie
 
 returns : tie.Need-returns
 unfolding afterOpen

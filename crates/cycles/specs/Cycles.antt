@@ -10,7 +10,7 @@ use Rattle.paper.specs.Registers as reg
 use Rattle.machine.specs.declared.Machine.{Machine}
 use Rattle.machine.specs.declared.Outcome.{Outcome}
 use Rattle.machine.specs.Events as ev
-use Rattle.speed.specs.declared.cycles.Ridden.{Ridden}
+use Rattle.cycles.specs.declared.forced.Ridden.{Ridden}
 
 -- the next k bytes
 unfoldable pub given : ℕ → Machine → ℕ → Ridden

@@ -1,12 +1,12 @@
--- `speed::cycles::finish_written` meets its contract: an F4 that could not be written ends the cycle; any other has begun a conversion, which finishes.
+-- `cycles::forced::finish_written` meets its contract: an F4 that could not be written ends the cycle; any other has begun a conversion, which finishes.
 use mathlib.Core.Path.{ap, _∙_}
 use borrow.Author.Needs.{needs}
 use Rattle.laws.specs.Cases.{eq-yes, eq-no}
 use Rattle.machine.specs.declared.Outcome.{Outcome}
-use Rattle.speed.specs.declared.cycles.Ridden.{Ridden}
-use Rattle.speed.specs.Cycles.{afterFinish, afterWrite}
-use Rattle.speed.proofs.cycles.finish_written.Statement.{statement}
-use Rattle.speed.proofs.cycles.finish_written.Tie as tie
+use Rattle.cycles.specs.declared.forced.Ridden.{Ridden}
+use Rattle.cycles.specs.Cycles.{afterFinish, afterWrite}
+use Rattle.cycles.proofs.forced.finish_written.Statement.{statement}
+use Rattle.cycles.proofs.forced.finish_written.Tie as tie
 
 returns : tie.Need-returns
 unfolding afterWrite

@@ -1,6 +1,6 @@
 // One forced cycle of the machine, each event's answer looked at, as a driver would.
 ghost use mathlib.Core.Path.{_≡_};
-ghost use Rattle.speed.specs.Cycles as cycle;
+ghost use Rattle.cycles.specs.Cycles as cycle;
 use machine::Machine;
 use machine::Outcome;
 

@@ -1,4 +1,4 @@
--- `speed::speed_cycles` meets its contract: the cycles ridden and those still to ride are all of them together.
+-- `cycles::speed_cycles` meets its contract: the cycles ridden and those still to ride are all of them together.
 use Prim.Native.Nat.{ℕ, suc, _+_, _-_, _≤_, _<_}
 use mathlib.Core.Path.{_≡_, refl, ap, _∙_}
 use mathlib.Core.List.{List}
@@ -8,10 +8,10 @@ use borrow.Author.Needs.{needs}
 use Rattle.machine.specs.declared.Machine.{Machine}
 use Rattle.machine.specs.declared.Outcome.{Outcome}
 use Rattle.machine.specs.Events.{copyingEnded}
-use Rattle.speed.specs.declared.cycles.Ridden.{Ridden}
-use Rattle.speed.specs.Cycles.{ridden, cycled}
-use Rattle.speed.proofs.speed_cycles.Statement.{statement}
-use Rattle.speed.proofs.speed_cycles.Tie as tie
+use Rattle.cycles.specs.declared.forced.Ridden.{Ridden}
+use Rattle.cycles.specs.Cycles.{ridden, cycled}
+use Rattle.cycles.proofs.speed_cycles.Statement.{statement}
+use Rattle.cycles.proofs.speed_cycles.Tie as tie
 
 module _ (f4 t p h : ℕ) where
   one-more : (n i : ℕ) (m : Machine) (seen : ℕ) (lent : List ℕ) (r : Ridden) (after : List ℕ) → i < n → (r, after) ≡ ridden m seen f4 t p h lent → cycled (n - (i + 1)) (r .machine) (r .seen) f4 t p h after ≡ cycled (n - i) m seen f4 t p h lent

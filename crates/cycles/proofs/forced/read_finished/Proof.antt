@@ -1,12 +1,12 @@
--- `speed::cycles::read_finished` meets its contract: a conversion that could not finish ends the cycle; any other is read.
+-- `cycles::forced::read_finished` meets its contract: a conversion that could not finish ends the cycle; any other is read.
 use mathlib.Core.Path.{ap, _∙_}
 use borrow.Author.Needs.{needs}
 use Rattle.laws.specs.Cases.{eq-yes, eq-no}
 use Rattle.machine.specs.declared.Outcome.{Outcome}
-use Rattle.speed.specs.declared.cycles.Ridden.{Ridden}
-use Rattle.speed.specs.Cycles.{afterOpen, afterFinish}
-use Rattle.speed.proofs.cycles.read_finished.Statement.{statement}
-use Rattle.speed.proofs.cycles.read_finished.Tie as tie
+use Rattle.cycles.specs.declared.forced.Ridden.{Ridden}
+use Rattle.cycles.specs.Cycles.{afterOpen, afterFinish}
+use Rattle.cycles.proofs.forced.read_finished.Statement.{statement}
+use Rattle.cycles.proofs.forced.read_finished.Tie as tie
 
 returns : tie.Need-returns
 unfolding afterFinish

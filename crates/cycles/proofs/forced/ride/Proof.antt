@@ -1,10 +1,10 @@
--- `speed::cycles::ride` meets its contract: F4 is written, and the cycle goes on from the answer.
+-- `cycles::forced::ride` meets its contract: F4 is written, and the cycle goes on from the answer.
 use mathlib.Core.Path.{ap, _∙_}
 use borrow.Author.Needs.{needs}
 use Rattle.machine.specs.declared.Outcome.{Outcome}
-use Rattle.speed.specs.Cycles.{afterWrite, ridden}
-use Rattle.speed.proofs.cycles.ride.Statement.{statement}
-use Rattle.speed.proofs.cycles.ride.Tie as tie
+use Rattle.cycles.specs.Cycles.{afterWrite, ridden}
+use Rattle.cycles.proofs.forced.ride.Statement.{statement}
+use Rattle.cycles.proofs.forced.ride.Tie as tie
 
 returns : tie.Need-returns
 unfolding ridden
