@@ -6,10 +6,11 @@ use Rattle.figures.specs.Page.{letters}
 use Rattle.figures.specs.declared.Reason.the-variants.{UnknownWord, WrongNumberOfWords}
 use Rattle.commands.specs.declared.Asked.the-variants.{Nothing, Command, Refused}
 use Rattle.commands.specs.declared.Command.the-variants as the
+use Rattle.commands.specs.declared.Time.the-variants.{WaitMaximum}
 use Rattle.commands.specs.Words as words
 use Rattle.commands.specs.Commands as known
 
-pub wait : known.asked (letters "wait max 5 5 5") ≡ Command the.WaitMaximum
+pub wait : known.asked (letters "wait max 5 5 5") ≡ Command (the.Time WaitMaximum)
 unfolding known.asked known.command known.verb known.wait words.count words.word words.afterSpaces words.upToSpace words.fromSpace words.is words.agrees
 wait = refl
 

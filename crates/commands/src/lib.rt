@@ -9,19 +9,39 @@ use figures::Reason;
 mod scan;
 mod verbs;
 
-// Every command of the bench.
+// Every command of the bench, by who answers it.
 pub enum Command {
+    Reading(Reading),
+    Time(Time),
+    Message(Message),
+    Happening(Happening),
+}
+
+// What a chip's bytes say.
+pub enum Reading {
     Cal,
     Comp,
+}
+
+// How long to wait, and whether it was long enough.
+pub enum Time {
     WaitMaximum,
     WaitTypical,
     Poll,
+}
+
+// Bytes on a bus.
+pub enum Message {
     I2cWrite,
     I2cDecode,
     I2cRead,
     SpiWrite,
     SpiDecode,
     SpiRead,
+}
+
+// What befalls the machine, and its ledger.
+pub enum Happening {
     Fresh,
     FreshAfter,
     Power,
