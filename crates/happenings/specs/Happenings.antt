@@ -8,6 +8,8 @@ use Rattle.figures.specs.Page.{Page, letters, _▹_}
 use Rattle.figures.specs.Digits.{decimal, pair}
 use Rattle.figures.specs.declared.Number.{Number}
 use Rattle.figures.specs.declared.Number.the-variants as number
+use Rattle.commands.specs.declared.Happening.{Happening}
+use Rattle.commands.specs.declared.Happening.the-variants as the
 use Rattle.commands.specs.declared.Two.{Two}
 use Rattle.commands.specs.declared.Two.the-variants as two
 use Rattle.commands.specs.declared.Three.{Three}
@@ -137,3 +139,18 @@ standingTold t p =
 
 unfoldable pub ledger : Machine → Page → Machine × Page
 ledger m p = (m, standingTold (counts.tallied m) (countsTold (counts.tallied m) p))
+
+-- ---- each of them
+
+abbrev pub answered : Happening → List ℕ → Machine → Page → Machine × Page
+answered the.Fresh line m p = fresh p
+answered the.FreshAfter line m p = freshAfter line m p
+answered the.Power line m p = power m p
+answered the.Copied line m p = copied m p
+answered the.Wake line m p = wake m p
+answered the.Write line m p = write line m p
+answered the.Finish line m p = finish line m p
+answered the.Open line m p = opening line m p
+answered the.Byte line m p = byte m p
+answered the.Close line m p = close line m p
+answered the.Ledger line m p = ledger m p

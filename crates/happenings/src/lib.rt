@@ -1,6 +1,7 @@
 // The machine's commands: fresh, the eight events, ledger.
 ghost use mathlib.Core.Path.{_≡_};
 ghost use Rattle.happenings.specs.Happenings as happenings;
+use commands::Happening;
 use commands::Three;
 use commands::Two;
 use figures::Number;
@@ -18,15 +19,34 @@ pub struct Answered {
     pub at: usize,
 }
 
+// Answers a happening's line: gives the machine afterwards, and writes the number and what goes with it, or the reason that refuses.
+pub fn answer(happening: Happening, line: &[u8], m: Machine, out: &mut [u8], at: usize) -> Answered
+    ensures { λ r. ⌜ (r .machine, (now (out .exit), r .at)) ≡ happenings.answered happening (now (line .entry)) m (now (out .entry), at) ⌝ }
+{
+    match happening {
+        Happening::Fresh => fresh(out, at),
+        Happening::FreshAfter => fresh_after(line, m, out, at),
+        Happening::Power => power(m, out, at),
+        Happening::Copied => copied(m, out, at),
+        Happening::Wake => wake(m, out, at),
+        Happening::Write => write(line, m, out, at),
+        Happening::Finish => finish(line, m, out, at),
+        Happening::Open => open(line, m, out, at),
+        Happening::Byte => byte(m, out, at),
+        Happening::Close => close(line, m, out, at),
+        Happening::Ledger => ledger(m, out, at),
+    }
+}
+
 // The machine stays as it is.
-pub fn stay(m: Machine, at: usize) -> Answered
+fn stay(m: Machine, at: usize) -> Answered
     ensures { λ r. ⌜ r ≡ happenings.stayed m at ⌝ }
 {
     Answered { machine: m, at }
 }
 
 // fresh
-pub fn fresh(out: &mut [u8], at: usize) -> Answered
+fn fresh(out: &mut [u8], at: usize) -> Answered
     ensures { λ r. ⌜ (r .machine, (now (out .exit), r .at)) ≡ happenings.fresh (now (out .entry), at) ⌝ }
 {
     Answered {
@@ -36,7 +56,7 @@ pub fn fresh(out: &mut [u8], at: usize) -> Answered
 }
 
 // fresh N
-pub fn fresh_after(line: &[u8], m: Machine, out: &mut [u8], at: usize) -> Answered
+fn fresh_after(line: &[u8], m: Machine, out: &mut [u8], at: usize) -> Answered
     ensures { λ r. ⌜ (r .machine, (now (out .exit), r .at)) ≡ happenings.freshAfter (now (line .entry)) m (now (out .entry), at) ⌝ }
 {
     fresh_counted(words::decimal(line, 1), m, out, at)
@@ -56,28 +76,28 @@ fn fresh_counted(number: Number, m: Machine, out: &mut [u8], at: usize) -> Answe
 }
 
 // power
-pub fn power(m: Machine, out: &mut [u8], at: usize) -> Answered
+fn power(m: Machine, out: &mut [u8], at: usize) -> Answered
     ensures { λ r. ⌜ (r .machine, (now (out .exit), r .at)) ≡ happenings.power m (now (out .entry), at) ⌝ }
 {
     tell_outcome(events::power(m), out, at)
 }
 
 // copied
-pub fn copied(m: Machine, out: &mut [u8], at: usize) -> Answered
+fn copied(m: Machine, out: &mut [u8], at: usize) -> Answered
     ensures { λ r. ⌜ (r .machine, (now (out .exit), r .at)) ≡ happenings.copied m (now (out .entry), at) ⌝ }
 {
     tell_outcome(events::copied(m), out, at)
 }
 
 // wake
-pub fn wake(m: Machine, out: &mut [u8], at: usize) -> Answered
+fn wake(m: Machine, out: &mut [u8], at: usize) -> Answered
     ensures { λ r. ⌜ (r .machine, (now (out .exit), r .at)) ≡ happenings.wake m (now (out .entry), at) ⌝ }
 {
     tell_outcome(events::wake(m), out, at)
 }
 
 // write REG VALUE
-pub fn write(line: &[u8], m: Machine, out: &mut [u8], at: usize) -> Answered
+fn write(line: &[u8], m: Machine, out: &mut [u8], at: usize) -> Answered
     ensures { λ r. ⌜ (r .machine, (now (out .exit), r .at)) ≡ happenings.write (now (line .entry)) m (now (out .entry), at) ⌝ }
 {
     write_read(
@@ -103,7 +123,7 @@ fn write_read(numbers: Two, m: Machine, out: &mut [u8], at: usize) -> Answered
 }
 
 // finish T P H
-pub fn finish(line: &[u8], m: Machine, out: &mut [u8], at: usize) -> Answered
+fn finish(line: &[u8], m: Machine, out: &mut [u8], at: usize) -> Answered
     ensures { λ r. ⌜ (r .machine, (now (out .exit), r .at)) ≡ happenings.finish (now (line .entry)) m (now (out .entry), at) ⌝ }
 {
     finish_read(words::decimals(line, 1, 2, 3), m, out, at)
@@ -124,7 +144,7 @@ fn finish_read(numbers: Three, m: Machine, out: &mut [u8], at: usize) -> Answere
 }
 
 // open ADDR
-pub fn open(line: &[u8], m: Machine, out: &mut [u8], at: usize) -> Answered
+fn open(line: &[u8], m: Machine, out: &mut [u8], at: usize) -> Answered
     ensures { λ r. ⌜ (r .machine, (now (out .exit), r .at)) ≡ happenings.opening (now (line .entry)) m (now (out .entry), at) ⌝ }
 {
     open_read(words::pair(line, 1), m, out, at)
@@ -152,7 +172,7 @@ fn tell_outcome(outcome: Outcome, out: &mut [u8], at: usize) -> Answered
 }
 
 // byte
-pub fn byte(m: Machine, out: &mut [u8], at: usize) -> Answered
+fn byte(m: Machine, out: &mut [u8], at: usize) -> Answered
     ensures { λ r. ⌜ (r .machine, (now (out .exit), r .at)) ≡ happenings.byte m (now (out .entry), at) ⌝ }
 {
     tell_given(events::byte(m), out, at)
@@ -174,7 +194,7 @@ fn tell_given(given: Given, out: &mut [u8], at: usize) -> Answered
 }
 
 // close LEN
-pub fn close(line: &[u8], m: Machine, out: &mut [u8], at: usize) -> Answered
+fn close(line: &[u8], m: Machine, out: &mut [u8], at: usize) -> Answered
     ensures { λ r. ⌜ (r .machine, (now (out .exit), r .at)) ≡ happenings.close (now (line .entry)) m (now (out .entry), at) ⌝ }
 {
     close_read(words::length(line, 1), m, out, at)
@@ -248,7 +268,7 @@ fn tell_codes(codes: Codes, out: &mut [u8], at: usize) -> usize
 }
 
 // ledger
-pub fn ledger(m: Machine, out: &mut [u8], at: usize) -> Answered
+fn ledger(m: Machine, out: &mut [u8], at: usize) -> Answered
     ensures { λ r. ⌜ (r .machine, (now (out .exit), r .at)) ≡ happenings.ledger m (now (out .entry), at) ⌝ }
 {
     let tally = events::tally(m);

@@ -9,13 +9,28 @@ use bus::Bus;
 use bus::Decoded;
 use bus::Device;
 use bus::Encoded;
+use commands::Message;
 use commands::Three;
 use commands::Two;
 use figures::front;
 use phrases::words;
 
+// Answers a message's line: writes the number, what goes with it and the whole lent buffer, or the reason that refuses.
+pub fn answer(message: Message, line: &[u8], out: &mut [u8], at: usize) -> usize
+    ensures { λ r. ⌜ (now (out .exit), r) ≡ messages.answered message (now (line .entry)) (now (out .entry), at) ⌝ }
+{
+    match message {
+        Message::I2cWrite => i2c_write(line, out, at),
+        Message::I2cDecode => i2c_decode(line, out, at),
+        Message::I2cRead => i2c_read(line, out, at),
+        Message::SpiWrite => spi_write(line, out, at),
+        Message::SpiDecode => spi_decode(line, out, at),
+        Message::SpiRead => spi_read(line, out, at),
+    }
+}
+
 // i2c write ADDR PAIRS LEN
-pub fn i2c_write(line: &[u8], out: &mut [u8], at: usize) -> usize
+fn i2c_write(line: &[u8], out: &mut [u8], at: usize) -> usize
     ensures { λ r. ⌜ (now (out .exit), r) ≡ messages.i2cWrite (now (line .entry)) (now (out .entry), at) ⌝ }
 {
     let mut pairs = words::room();
@@ -26,7 +41,7 @@ pub fn i2c_write(line: &[u8], out: &mut [u8], at: usize) -> usize
 }
 
 // i2c decode BYTES LEN
-pub fn i2c_decode(line: &[u8], out: &mut [u8], at: usize) -> usize
+fn i2c_decode(line: &[u8], out: &mut [u8], at: usize) -> usize
     ensures { λ r. ⌜ (now (out .exit), r) ≡ messages.decode I2c (now (line .entry)) (now (out .entry), at) ⌝ }
 {
     let mut bytes = words::room();
@@ -36,7 +51,7 @@ pub fn i2c_decode(line: &[u8], out: &mut [u8], at: usize) -> usize
 }
 
 // i2c read ADDR REG LEN
-pub fn i2c_read(line: &[u8], out: &mut [u8], at: usize) -> usize
+fn i2c_read(line: &[u8], out: &mut [u8], at: usize) -> usize
     ensures { λ r. ⌜ (now (out .exit), r) ≡ messages.i2cRead (now (line .entry)) (now (out .entry), at) ⌝ }
 {
     let address = words::pair(line, 2);
@@ -46,7 +61,7 @@ pub fn i2c_read(line: &[u8], out: &mut [u8], at: usize) -> usize
 }
 
 // spi write PAIRS LEN
-pub fn spi_write(line: &[u8], out: &mut [u8], at: usize) -> usize
+fn spi_write(line: &[u8], out: &mut [u8], at: usize) -> usize
     ensures { λ r. ⌜ (now (out .exit), r) ≡ messages.spiWrite (now (line .entry)) (now (out .entry), at) ⌝ }
 {
     let mut pairs = words::room();
@@ -56,7 +71,7 @@ pub fn spi_write(line: &[u8], out: &mut [u8], at: usize) -> usize
 }
 
 // spi decode BYTES LEN
-pub fn spi_decode(line: &[u8], out: &mut [u8], at: usize) -> usize
+fn spi_decode(line: &[u8], out: &mut [u8], at: usize) -> usize
     ensures { λ r. ⌜ (now (out .exit), r) ≡ messages.decode Spi (now (line .entry)) (now (out .entry), at) ⌝ }
 {
     let mut bytes = words::room();
@@ -66,7 +81,7 @@ pub fn spi_decode(line: &[u8], out: &mut [u8], at: usize) -> usize
 }
 
 // spi read REG LEN
-pub fn spi_read(line: &[u8], out: &mut [u8], at: usize) -> usize
+fn spi_read(line: &[u8], out: &mut [u8], at: usize) -> usize
     ensures { λ r. ⌜ (now (out .exit), r) ≡ messages.spiRead (now (line .entry)) (now (out .entry), at) ⌝ }
 {
     let register = words::pair(line, 2);

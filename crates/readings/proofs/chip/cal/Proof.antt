@@ -1,5 +1,5 @@
 -- The two blocks that were read.
-use Rattle.readings.specs.Chip.{cal}
+use Rattle.readings.specs.Readings.{cal}
 use Rattle.phrases.specs.Read.{read}
 use borrow.Author.Needs.{needs}
 use Rattle.readings.proofs.chip.cal.Statement.{statement}

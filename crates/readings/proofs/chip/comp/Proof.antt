@@ -1,5 +1,5 @@
 -- The blocks, the data and the codes that were read.
-use Rattle.readings.specs.Chip.{comp}
+use Rattle.readings.specs.Readings.{comp}
 use Rattle.phrases.specs.Read.{read}
 use borrow.Author.Needs.{needs}
 use Rattle.readings.proofs.chip.comp.Statement.{statement}

@@ -4,6 +4,8 @@ use mathlib.Core.List.{List, [], _∷_}
 use lib.ListN.{take}
 use Rattle.figures.specs.Page.{Page, letters, _▹_}
 use Rattle.figures.specs.Digits.{decimal}
+use Rattle.commands.specs.declared.Time.{Time}
+use Rattle.commands.specs.declared.Time.the-variants.{WaitMaximum, WaitTypical, Poll}
 use Rattle.commands.specs.declared.Two.{Two}
 use Rattle.commands.specs.declared.Two.the-variants as two
 use Rattle.commands.specs.declared.Three.{Three}
@@ -11,7 +13,7 @@ use Rattle.commands.specs.declared.Three.the-variants as three
 use Rattle.commands.specs.Arguments.{both}
 use Rattle.paper.specs.Answers.{Answer}
 use Rattle.waiting.specs.declared.Figures.{Figures}
-use Rattle.waiting.specs.Waiting.{waited}
+use Rattle.waiting.specs.Waiting.{waited, maximum, typical}
 use Rattle.waiting.specs.Polling.{polled}
 use Rattle.phrases.specs.Phrases.{refused}
 use Rattle.phrases.specs.Words as words
@@ -51,3 +53,10 @@ pollRead (two.Values allowance n) status p = pollTold (polled (take n status) al
 
 unfoldable pub poll : List ℕ → Page → Page
 poll line p = pollRead (both (words.decimal 1 line) (bytesAt 2 line .0)) (bytesAt 2 line .1) p
+
+-- ---- each of them
+
+abbrev pub answered : Time → List ℕ → Page → Page
+answered WaitMaximum line p = wait maximum line p
+answered WaitTypical line p = wait typical line p
+answered Poll line p = poll line p

@@ -2,23 +2,35 @@
 ghost use mathlib.Core.Path.{_≡_};
 ghost use Rattle.waiting.specs.Waiting.{maximum, typical, waitAnswer};
 ghost use Rattle.waiting.specs.Polling.{pollAnswer};
-ghost use Rattle.readings.specs.Times as times;
+ghost use Rattle.times.specs.Times as times;
 use commands::Three;
+use commands::Time;
 use commands::Two;
 use figures::front;
 use phrases::words;
 use waiting::Polled;
 use waiting::Wait;
 
+// Answers a time's line: writes the microseconds, the place and the polls, or the number or reason that refuses.
+pub fn answer(time: Time, line: &[u8], out: &mut [u8], at: usize) -> usize
+    ensures { λ r. ⌜ (now (out .exit), r) ≡ times.answered time (now (line .entry)) (now (out .entry), at) ⌝ }
+{
+    match time {
+        Time::WaitMaximum => wait_maximum(line, out, at),
+        Time::WaitTypical => wait_typical(line, out, at),
+        Time::Poll => poll(line, out, at),
+    }
+}
+
 // wait max t p h
-pub fn wait_maximum(line: &[u8], out: &mut [u8], at: usize) -> usize
+fn wait_maximum(line: &[u8], out: &mut [u8], at: usize) -> usize
     ensures { λ r. ⌜ (now (out .exit), r) ≡ times.wait maximum (now (line .entry)) (now (out .entry), at) ⌝ }
 {
     wait_at_most(words::decimals(line, 2, 3, 4), out, at)
 }
 
 // wait typ t p h
-pub fn wait_typical(line: &[u8], out: &mut [u8], at: usize) -> usize
+fn wait_typical(line: &[u8], out: &mut [u8], at: usize) -> usize
     ensures { λ r. ⌜ (now (out .exit), r) ≡ times.wait typical (now (line .entry)) (now (out .entry), at) ⌝ }
 {
     wait_typically(words::decimals(line, 2, 3, 4), out, at)
@@ -66,7 +78,7 @@ fn tell_wait(wait: Wait, out: &mut [u8], at: usize) -> usize
 }
 
 // poll ALLOWANCE STATUS
-pub fn poll(line: &[u8], out: &mut [u8], at: usize) -> usize
+fn poll(line: &[u8], out: &mut [u8], at: usize) -> usize
     ensures { λ r. ⌜ (now (out .exit), r) ≡ times.poll (now (line .entry)) (now (out .entry), at) ⌝ }
 {
     let mut status = words::room();

@@ -1,7 +1,7 @@
 -- The cases of the definition.
 use borrow.Author.Needs.{needs}
-use Rattle.readings.proofs.times.poll_read.Statement.{statement}
-use Rattle.readings.proofs.times.poll_read.Tie as tie
+use Rattle.times.proofs.poll_read.Statement.{statement}
+use Rattle.times.proofs.poll_read.Tie as tie
 
 returns : tie.Need-returns
 returns c = rw (c .before .before .before .before .before .before .before .numbers .given .1, c .before .before .tell-poll .ensures, c .before .before .before .before .poll .ensures, c .before .before .before .before .before .front .ensures)

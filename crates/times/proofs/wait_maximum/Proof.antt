@@ -1,8 +1,8 @@
 -- The codes that were read.
-use Rattle.readings.specs.Times.{wait}
+use Rattle.times.specs.Times.{wait}
 use borrow.Author.Needs.{needs}
-use Rattle.readings.proofs.times.wait_maximum.Statement.{statement}
-use Rattle.readings.proofs.times.wait_maximum.Tie as tie
+use Rattle.times.proofs.wait_maximum.Statement.{statement}
+use Rattle.times.proofs.wait_maximum.Tie as tie
 
 returns : tie.Need-returns
 unfolding wait

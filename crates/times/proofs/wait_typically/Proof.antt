@@ -1,7 +1,7 @@
 -- The cases of the definition.
 use borrow.Author.Needs.{needs}
-use Rattle.readings.proofs.times.wait_typically.Statement.{statement}
-use Rattle.readings.proofs.times.wait_typically.Tie as tie
+use Rattle.times.proofs.wait_typically.Statement.{statement}
+use Rattle.times.proofs.wait_typically.Tie as tie
 
 returns : tie.Need-returns
 returns c = rw (c .before .before .before .before .before .before .before .before .before .codes .given .1, c .before .before .tell-wait .ensures, c .before .before .before .before .typical-wait .ensures, c .before .before .before .before .before .code3 .ensures, c .before .before .before .before .before .before .code2 .ensures, c .before .before .before .before .before .before .before .code .ensures)

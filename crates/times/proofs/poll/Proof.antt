@@ -1,9 +1,9 @@
 -- The allowance and the bytes that were read.
-use Rattle.readings.specs.Times.{poll}
+use Rattle.times.specs.Times.{poll}
 use Rattle.phrases.specs.Read.{read}
 use borrow.Author.Needs.{needs}
-use Rattle.readings.proofs.times.poll.Statement.{statement}
-use Rattle.readings.proofs.times.poll.Tie as tie
+use Rattle.times.proofs.poll.Statement.{statement}
+use Rattle.times.proofs.poll.Tie as tie
 
 returns : tie.Need-returns
 unfolding poll

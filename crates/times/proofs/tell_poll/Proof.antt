@@ -1,8 +1,8 @@
 -- The cases of the definition.
 use mathlib.Core.Path.{refl}
 use borrow.Author.Needs.{needs}
-use Rattle.readings.proofs.times.tell_poll.Statement.{statement}
-use Rattle.readings.proofs.times.tell_poll.Tie as tie
+use Rattle.times.proofs.tell_poll.Statement.{statement}
+use Rattle.times.proofs.tell_poll.Tie as tie
 
 slice-aggregate-named : tie.Need-slice-aggregate-named
 slice-aggregate-named c = refl

@@ -4,6 +4,8 @@ use mathlib.Core.List.{List}
 use lib.ListN.{take}
 use Rattle.figures.specs.Page.{Page, letters, _▹_}
 use Rattle.figures.specs.Digits.{decimal, signed}
+use Rattle.commands.specs.declared.Reading.{Reading}
+use Rattle.commands.specs.declared.Reading.the-variants.{Cal, Comp}
 use Rattle.commands.specs.declared.Two.{Two}
 use Rattle.commands.specs.declared.Two.the-variants as two
 use Rattle.commands.specs.declared.Three.{Three}
@@ -96,3 +98,9 @@ unfoldable pub comp : List ℕ → Page → Page
 comp line p =
     compensate (allThree (bytesAt 1 line .0) (bytesAt 2 line .0) (bytesAt 3 line .0)) (decimals 4 5 6 line)
     (bytesAt 1 line .1) (bytesAt 2 line .1) (bytesAt 3 line .1) p
+
+-- ---- either
+
+abbrev pub answered : Reading → List ℕ → Page → Page
+answered Cal line p = cal line p
+answered Comp line p = comp line p
