@@ -3,9 +3,8 @@ ghost use mathlib.Core.Path.{_≡_};
 ghost use Rattle.commands.specs.Commands as known;
 use crate::Asked;
 use crate::Command;
-use crate::scan;
-use crate::word;
 use figures::Reason;
+use words::word;
 
 // What a first word says: a command by itself, one that a second word completes, one that may have a number, or none.
 pub enum Verb {
@@ -21,16 +20,16 @@ pub enum Verb {
 fn first_verb(first: &[u8]) -> Verb
     ensures { λ r. ⌜ r ≡ known.verb (now (first .entry)) ⌝ }
 {
-    if scan::is(first, b"cal") {
+    if words::is(first, b"cal") {
         return Verb::Alone(Command::Cal);
     }
-    if scan::is(first, b"comp") {
+    if words::is(first, b"comp") {
         return Verb::Alone(Command::Comp);
     }
-    if scan::is(first, b"wait") {
+    if words::is(first, b"wait") {
         return Verb::Wait;
     }
-    if scan::is(first, b"poll") {
+    if words::is(first, b"poll") {
         return Verb::Alone(Command::Poll);
     }
     message(first)
@@ -40,10 +39,10 @@ fn first_verb(first: &[u8]) -> Verb
 fn message(first: &[u8]) -> Verb
     ensures { λ r. ⌜ r ≡ known.message (now (first .entry)) ⌝ }
 {
-    if scan::is(first, b"i2c") {
+    if words::is(first, b"i2c") {
         return Verb::I2c;
     }
-    if scan::is(first, b"spi") {
+    if words::is(first, b"spi") {
         return Verb::Spi;
     }
     event(first)
@@ -53,16 +52,16 @@ fn message(first: &[u8]) -> Verb
 fn event(first: &[u8]) -> Verb
     ensures { λ r. ⌜ r ≡ known.event (now (first .entry)) ⌝ }
 {
-    if scan::is(first, b"fresh") {
+    if words::is(first, b"fresh") {
         return Verb::Fresh;
     }
-    if scan::is(first, b"power") {
+    if words::is(first, b"power") {
         return Verb::Alone(Command::Power);
     }
-    if scan::is(first, b"copied") {
+    if words::is(first, b"copied") {
         return Verb::Alone(Command::Copied);
     }
-    if scan::is(first, b"wake") {
+    if words::is(first, b"wake") {
         return Verb::Alone(Command::Wake);
     }
     change(first)
@@ -72,10 +71,10 @@ fn event(first: &[u8]) -> Verb
 fn change(first: &[u8]) -> Verb
     ensures { λ r. ⌜ r ≡ known.change (now (first .entry)) ⌝ }
 {
-    if scan::is(first, b"write") {
+    if words::is(first, b"write") {
         return Verb::Alone(Command::Write);
     }
-    if scan::is(first, b"finish") {
+    if words::is(first, b"finish") {
         return Verb::Alone(Command::Finish);
     }
     burst(first)
@@ -85,16 +84,16 @@ fn change(first: &[u8]) -> Verb
 fn burst(first: &[u8]) -> Verb
     ensures { λ r. ⌜ r ≡ known.burst (now (first .entry)) ⌝ }
 {
-    if scan::is(first, b"open") {
+    if words::is(first, b"open") {
         return Verb::Alone(Command::Open);
     }
-    if scan::is(first, b"byte") {
+    if words::is(first, b"byte") {
         return Verb::Alone(Command::Byte);
     }
-    if scan::is(first, b"close") {
+    if words::is(first, b"close") {
         return Verb::Alone(Command::Close);
     }
-    if scan::is(first, b"ledger") {
+    if words::is(first, b"ledger") {
         return Verb::Alone(Command::Ledger);
     }
     Verb::Unknown
@@ -104,7 +103,7 @@ fn burst(first: &[u8]) -> Verb
 pub fn command(line: &[u8]) -> Asked
     ensures { λ r. ⌜ r ≡ known.command (now (line .entry)) ⌝ }
 {
-    completed(first_verb(word(line, 0)), word(line, 1), scan::count(line))
+    completed(first_verb(word(line, 0)), word(line, 1), words::count(line))
 }
 
 // The command that a verb makes with a second word, on a line of so many words.
@@ -140,10 +139,10 @@ fn present(count: usize, with_it: Asked) -> Asked
 fn wait(second: &[u8]) -> Asked
     ensures { λ r. ⌜ r ≡ known.wait (now (second .entry)) ⌝ }
 {
-    if scan::is(second, b"max") {
+    if words::is(second, b"max") {
         return Asked::Command(Command::WaitMaximum);
     }
-    if scan::is(second, b"typ") {
+    if words::is(second, b"typ") {
         return Asked::Command(Command::WaitTypical);
     }
     Asked::Refused(Reason::UnknownWord)
@@ -153,13 +152,13 @@ fn wait(second: &[u8]) -> Asked
 fn i2c(second: &[u8]) -> Asked
     ensures { λ r. ⌜ r ≡ known.i2c (now (second .entry)) ⌝ }
 {
-    if scan::is(second, b"write") {
+    if words::is(second, b"write") {
         return Asked::Command(Command::I2cWrite);
     }
-    if scan::is(second, b"decode") {
+    if words::is(second, b"decode") {
         return Asked::Command(Command::I2cDecode);
     }
-    if scan::is(second, b"read") {
+    if words::is(second, b"read") {
         return Asked::Command(Command::I2cRead);
     }
     Asked::Refused(Reason::UnknownWord)
@@ -169,13 +168,13 @@ fn i2c(second: &[u8]) -> Asked
 fn spi(second: &[u8]) -> Asked
     ensures { λ r. ⌜ r ≡ known.spi (now (second .entry)) ⌝ }
 {
-    if scan::is(second, b"write") {
+    if words::is(second, b"write") {
         return Asked::Command(Command::SpiWrite);
     }
-    if scan::is(second, b"decode") {
+    if words::is(second, b"decode") {
         return Asked::Command(Command::SpiDecode);
     }
-    if scan::is(second, b"read") {
+    if words::is(second, b"read") {
         return Asked::Command(Command::SpiRead);
     }
     Asked::Refused(Reason::UnknownWord)

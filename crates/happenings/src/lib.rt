@@ -1,8 +1,8 @@
 // The machine's commands: fresh, the eight events, ledger.
 ghost use mathlib.Core.Path.{_≡_};
 ghost use Rattle.happenings.specs.Happenings as happenings;
-use commands::Three;
-use commands::Two;
+use arguments::Three;
+use arguments::Two;
 use figures::Number;
 use machine::Closing;
 use machine::Codes;
@@ -10,7 +10,6 @@ use machine::Given;
 use machine::Machine;
 use machine::Outcome;
 use machine::Tally;
-use phrases::words;
 
 // The machine after a command, and the page's next place.
 pub struct Answered {
@@ -39,7 +38,7 @@ pub fn fresh(out: &mut [u8], at: usize) -> Answered
 pub fn fresh_after(line: &[u8], m: Machine, out: &mut [u8], at: usize) -> Answered
     ensures { λ r. ⌜ (r .machine, (now (out .exit), r .at)) ≡ happenings.freshAfter (now (line .entry)) m (now (out .entry), at) ⌝ }
 {
-    fresh_counted(words::decimal(line, 1), m, out, at)
+    fresh_counted(arguments::decimal(line, 1), m, out, at)
 }
 
 // The same with the number that was read.
@@ -48,7 +47,7 @@ fn fresh_counted(number: Number, m: Machine, out: &mut [u8], at: usize) -> Answe
 {
     match number {
         Number::Value(n) => Answered {
-            machine: events::fresh_after(words::count(n)),
+            machine: events::fresh_after(arguments::count(n)),
             at: phrases::number(paper::DONE, out, at),
         },
         Number::Refused(reason) => stay(m, phrases::refuse(reason, out, at)),
@@ -81,7 +80,7 @@ pub fn write(line: &[u8], m: Machine, out: &mut [u8], at: usize) -> Answered
     ensures { λ r. ⌜ (r .machine, (now (out .exit), r .at)) ≡ happenings.write (now (line .entry)) m (now (out .entry), at) ⌝ }
 {
     write_read(
-        commands::both(words::pair(line, 1), words::pair(line, 2)),
+        arguments::both(arguments::pair(line, 1), arguments::pair(line, 2)),
         m,
         out,
         at,
@@ -94,7 +93,7 @@ fn write_read(numbers: Two, m: Machine, out: &mut [u8], at: usize) -> Answered
 {
     match numbers {
         Two::Values(register, value) => tell_outcome(
-            events::write(m, words::octet(register), words::octet(value)),
+            events::write(m, arguments::octet(register), arguments::octet(value)),
             out,
             at,
         ),
@@ -106,7 +105,7 @@ fn write_read(numbers: Two, m: Machine, out: &mut [u8], at: usize) -> Answered
 pub fn finish(line: &[u8], m: Machine, out: &mut [u8], at: usize) -> Answered
     ensures { λ r. ⌜ (r .machine, (now (out .exit), r .at)) ≡ happenings.finish (now (line .entry)) m (now (out .entry), at) ⌝ }
 {
-    finish_read(words::decimals(line, 1, 2, 3), m, out, at)
+    finish_read(arguments::decimals(line, 1, 2, 3), m, out, at)
 }
 
 // The same with the counts that were read.
@@ -115,7 +114,12 @@ fn finish_read(numbers: Three, m: Machine, out: &mut [u8], at: usize) -> Answere
 {
     match numbers {
         Three::Values(t, p, h) => tell_outcome(
-            events::finish(m, words::count(t), words::count(p), words::count(h)),
+            events::finish(
+                m,
+                arguments::count(t),
+                arguments::count(p),
+                arguments::count(h),
+            ),
             out,
             at,
         ),
@@ -127,7 +131,7 @@ fn finish_read(numbers: Three, m: Machine, out: &mut [u8], at: usize) -> Answere
 pub fn open(line: &[u8], m: Machine, out: &mut [u8], at: usize) -> Answered
     ensures { λ r. ⌜ (r .machine, (now (out .exit), r .at)) ≡ happenings.opening (now (line .entry)) m (now (out .entry), at) ⌝ }
 {
-    open_read(words::pair(line, 1), m, out, at)
+    open_read(arguments::pair(line, 1), m, out, at)
 }
 
 // The same with the address that was read.
@@ -135,7 +139,7 @@ fn open_read(address: Number, m: Machine, out: &mut [u8], at: usize) -> Answered
     ensures { λ r. ⌜ (r .machine, (now (out .exit), r .at)) ≡ happenings.openRead address m (now (out .entry), at) ⌝ }
 {
     match address {
-        Number::Value(n) => tell_outcome(events::open(m, words::octet(n)), out, at),
+        Number::Value(n) => tell_outcome(events::open(m, arguments::octet(n)), out, at),
         Number::Refused(reason) => stay(m, phrases::refuse(reason, out, at)),
     }
 }
@@ -177,7 +181,7 @@ fn tell_given(given: Given, out: &mut [u8], at: usize) -> Answered
 pub fn close(line: &[u8], m: Machine, out: &mut [u8], at: usize) -> Answered
     ensures { λ r. ⌜ (r .machine, (now (out .exit), r .at)) ≡ happenings.close (now (line .entry)) m (now (out .entry), at) ⌝ }
 {
-    close_read(words::length(line, 1), m, out, at)
+    close_read(arguments::length(line, 1), m, out, at)
 }
 
 // The same with the length that was read.
@@ -194,8 +198,8 @@ fn close_read(length: Number, m: Machine, out: &mut [u8], at: usize) -> Answered
 fn close_with(length: usize, m: Machine, out: &mut [u8], at: usize) -> Answered
     ensures { λ r. ⌜ (r .machine, (now (out .exit), r .at)) ≡ happenings.closeWith length m (now (out .entry), at) ⌝ }
 {
-    let mut lent = words::filled();
-    let n = words::within(length);
+    let mut lent = arguments::filled();
+    let n = arguments::within(length);
     close_into(m, &mut lent[..n], out, at)
 }
 
@@ -232,9 +236,9 @@ fn tell_whole(whole: bool, out: &mut [u8], at: usize) -> usize
     ensures { λ r. ⌜ (now (out .exit), r) ≡ happenings.wholeTold whole (now (out .entry), at) ⌝ }
 {
     if whole {
-        figures::write_text(b" whole", out, at)
+        pages::write_text(b" whole", out, at)
     } else {
-        figures::write_text(b" partial", out, at)
+        pages::write_text(b" partial", out, at)
     }
 }
 

@@ -2,13 +2,13 @@
 use Prim.Native.Nat.{ℕ}
 use mathlib.Core.List.{List, [], _∷_}
 use lib.ListN.{take}
-use Rattle.figures.specs.Page.{Page, letters, _▹_}
-use Rattle.figures.specs.Digits.{decimal, pair}
-use Rattle.commands.specs.declared.Two.{Two}
-use Rattle.commands.specs.declared.Two.the-variants as two
-use Rattle.commands.specs.declared.Three.{Three}
-use Rattle.commands.specs.declared.Three.the-variants as three
-use Rattle.commands.specs.Arguments.{both, allThree}
+use Rattle.pages.specs.Page.{Page, letters, _▹_}
+use Rattle.pages.specs.Digits.{decimal, pair}
+use Rattle.arguments.specs.declared.Two.{Two}
+use Rattle.arguments.specs.declared.Two.the-variants as two
+use Rattle.arguments.specs.declared.Three.{Three}
+use Rattle.arguments.specs.declared.Three.the-variants as three
+use Rattle.arguments.specs.Arguments.{both, allThree}
 use Rattle.paper.specs.Answers.{Answer}
 use Rattle.bus.specs.declared.Bus.{Bus}
 use Rattle.bus.specs.declared.Device.{Device}
@@ -16,8 +16,8 @@ use Rattle.bus.specs.declared.Device.the-variants.{At, Selected}
 use Rattle.bus.specs.Writing.{encodedWrite, decodedWrite}
 use Rattle.bus.specs.Reading.{encodedRead}
 use Rattle.phrases.specs.Phrases.{refused, buffered}
-use Rattle.phrases.specs.Words as words
-use Rattle.phrases.specs.Words.{bytesAt, octet, lentOf}
+use Rattle.arguments.specs.Words as words
+use Rattle.arguments.specs.Words.{bytesAt, octet, lentOf}
 
 -- the number of bytes, after the address where there is one
 abbrev pub addressAndBytes : List ℕ → Page → Page

@@ -1,6 +1,6 @@
 -- The allowance and the bytes that were read.
 use Rattle.readings.specs.Times.{poll}
-use Rattle.phrases.specs.Read.{read}
+use Rattle.arguments.specs.Read.{read}
 use borrow.Author.Needs.{needs}
 use Rattle.readings.proofs.times.poll.Statement.{statement}
 use Rattle.readings.proofs.times.poll.Tie as tie
