@@ -45,7 +45,7 @@ fn take_byte(kept: Bench, byte: u8, line: &mut [u8], out: &mut [u8]) -> Bench {
     let machine = kept.machine;
     Bench {
         machine,
-        held: figures::write_byte(byte, line, kept.held),
+        held: pages::write_byte(byte, line, kept.held),
         at: kept.at,
     }
 }

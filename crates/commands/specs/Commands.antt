@@ -4,7 +4,7 @@ use mathlib.Core.Bool.{Bool, cond}
 use mathlib.Core.List.{List}
 use lib.Dec.{eqb, ltb}
 use lib.ListN.{length}
-use Rattle.figures.specs.Page.{letters}
+use Rattle.pages.specs.Page.{letters}
 use Rattle.figures.specs.declared.Reason.the-variants.{UnknownWord, WrongNumberOfWords, TooLong}
 use Rattle.commands.specs.declared.Command.{Command}
 use Rattle.commands.specs.declared.Command.the-variants as the
@@ -20,8 +20,8 @@ use Rattle.commands.specs.declared.Asked.{Asked}
 use Rattle.commands.specs.declared.Asked.the-variants as asks
 use Rattle.commands.specs.declared.verbs.Verb.{Verb}
 use Rattle.commands.specs.declared.verbs.Verb.the-variants as verbs
-use Rattle.commands.specs.Words as words
-use Rattle.commands.specs.Words.{is, word}
+use Rattle.words.specs.Words as words
+use Rattle.words.specs.Words.{is, word}
 
 -- ---- first words
 

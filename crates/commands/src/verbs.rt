@@ -7,9 +7,8 @@ use crate::Happening;
 use crate::Message;
 use crate::Reading;
 use crate::Time;
-use crate::scan;
-use crate::word;
 use figures::Reason;
+use words::word;
 
 // What a first word says: a command by itself, one that a second word completes, one that may have a number, or none.
 pub enum Verb {
@@ -25,16 +24,16 @@ pub enum Verb {
 fn first_verb(first: &[u8]) -> Verb
     ensures { λ r. ⌜ r ≡ known.verb (now (first .entry)) ⌝ }
 {
-    if scan::is(first, b"cal") {
+    if words::is(first, b"cal") {
         return Verb::Alone(Command::Reading(Reading::Cal));
     }
-    if scan::is(first, b"comp") {
+    if words::is(first, b"comp") {
         return Verb::Alone(Command::Reading(Reading::Comp));
     }
-    if scan::is(first, b"wait") {
+    if words::is(first, b"wait") {
         return Verb::Wait;
     }
-    if scan::is(first, b"poll") {
+    if words::is(first, b"poll") {
         return Verb::Alone(Command::Time(Time::Poll));
     }
     message(first)
@@ -44,10 +43,10 @@ fn first_verb(first: &[u8]) -> Verb
 fn message(first: &[u8]) -> Verb
     ensures { λ r. ⌜ r ≡ known.message (now (first .entry)) ⌝ }
 {
-    if scan::is(first, b"i2c") {
+    if words::is(first, b"i2c") {
         return Verb::I2c;
     }
-    if scan::is(first, b"spi") {
+    if words::is(first, b"spi") {
         return Verb::Spi;
     }
     event(first)
@@ -57,16 +56,16 @@ fn message(first: &[u8]) -> Verb
 fn event(first: &[u8]) -> Verb
     ensures { λ r. ⌜ r ≡ known.event (now (first .entry)) ⌝ }
 {
-    if scan::is(first, b"fresh") {
+    if words::is(first, b"fresh") {
         return Verb::Fresh;
     }
-    if scan::is(first, b"power") {
+    if words::is(first, b"power") {
         return Verb::Alone(Command::Happening(Happening::Power));
     }
-    if scan::is(first, b"copied") {
+    if words::is(first, b"copied") {
         return Verb::Alone(Command::Happening(Happening::Copied));
     }
-    if scan::is(first, b"wake") {
+    if words::is(first, b"wake") {
         return Verb::Alone(Command::Happening(Happening::Wake));
     }
     change(first)
@@ -76,10 +75,10 @@ fn event(first: &[u8]) -> Verb
 fn change(first: &[u8]) -> Verb
     ensures { λ r. ⌜ r ≡ known.change (now (first .entry)) ⌝ }
 {
-    if scan::is(first, b"write") {
+    if words::is(first, b"write") {
         return Verb::Alone(Command::Happening(Happening::Write));
     }
-    if scan::is(first, b"finish") {
+    if words::is(first, b"finish") {
         return Verb::Alone(Command::Happening(Happening::Finish));
     }
     burst(first)
@@ -89,16 +88,16 @@ fn change(first: &[u8]) -> Verb
 fn burst(first: &[u8]) -> Verb
     ensures { λ r. ⌜ r ≡ known.burst (now (first .entry)) ⌝ }
 {
-    if scan::is(first, b"open") {
+    if words::is(first, b"open") {
         return Verb::Alone(Command::Happening(Happening::Open));
     }
-    if scan::is(first, b"byte") {
+    if words::is(first, b"byte") {
         return Verb::Alone(Command::Happening(Happening::Byte));
     }
-    if scan::is(first, b"close") {
+    if words::is(first, b"close") {
         return Verb::Alone(Command::Happening(Happening::Close));
     }
-    if scan::is(first, b"ledger") {
+    if words::is(first, b"ledger") {
         return Verb::Alone(Command::Happening(Happening::Ledger));
     }
     Verb::Unknown
@@ -108,7 +107,7 @@ fn burst(first: &[u8]) -> Verb
 pub fn command(line: &[u8]) -> Asked
     ensures { λ r. ⌜ r ≡ known.command (now (line .entry)) ⌝ }
 {
-    completed(first_verb(word(line, 0)), word(line, 1), scan::count(line))
+    completed(first_verb(word(line, 0)), word(line, 1), words::count(line))
 }
 
 // The command that a verb makes with a second word, on a line of so many words.
@@ -144,10 +143,10 @@ fn present(count: usize, with_it: Asked) -> Asked
 fn wait(second: &[u8]) -> Asked
     ensures { λ r. ⌜ r ≡ known.wait (now (second .entry)) ⌝ }
 {
-    if scan::is(second, b"max") {
+    if words::is(second, b"max") {
         return Asked::Command(Command::Time(Time::WaitMaximum));
     }
-    if scan::is(second, b"typ") {
+    if words::is(second, b"typ") {
         return Asked::Command(Command::Time(Time::WaitTypical));
     }
     Asked::Refused(Reason::UnknownWord)
@@ -157,13 +156,13 @@ fn wait(second: &[u8]) -> Asked
 fn i2c(second: &[u8]) -> Asked
     ensures { λ r. ⌜ r ≡ known.i2c (now (second .entry)) ⌝ }
 {
-    if scan::is(second, b"write") {
+    if words::is(second, b"write") {
         return Asked::Command(Command::Message(Message::I2cWrite));
     }
-    if scan::is(second, b"decode") {
+    if words::is(second, b"decode") {
         return Asked::Command(Command::Message(Message::I2cDecode));
     }
-    if scan::is(second, b"read") {
+    if words::is(second, b"read") {
         return Asked::Command(Command::Message(Message::I2cRead));
     }
     Asked::Refused(Reason::UnknownWord)
@@ -173,13 +172,13 @@ fn i2c(second: &[u8]) -> Asked
 fn spi(second: &[u8]) -> Asked
     ensures { λ r. ⌜ r ≡ known.spi (now (second .entry)) ⌝ }
 {
-    if scan::is(second, b"write") {
+    if words::is(second, b"write") {
         return Asked::Command(Command::Message(Message::SpiWrite));
     }
-    if scan::is(second, b"decode") {
+    if words::is(second, b"decode") {
         return Asked::Command(Command::Message(Message::SpiDecode));
     }
-    if scan::is(second, b"read") {
+    if words::is(second, b"read") {
         return Asked::Command(Command::Message(Message::SpiRead));
     }
     Asked::Refused(Reason::UnknownWord)

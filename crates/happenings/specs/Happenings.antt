@@ -4,17 +4,17 @@ use Prim.Native.Nat.{ℕ}
 use mathlib.Core.Bool.{Bool, true, false, cond}
 use mathlib.Core.List.{List}
 use lib.Dec.{eqb}
-use Rattle.figures.specs.Page.{Page, letters, _▹_}
-use Rattle.figures.specs.Digits.{decimal, pair}
+use Rattle.pages.specs.Page.{Page, letters, _▹_}
+use Rattle.pages.specs.Digits.{decimal, pair}
 use Rattle.figures.specs.declared.Number.{Number}
 use Rattle.figures.specs.declared.Number.the-variants as number
 use Rattle.commands.specs.declared.Happening.{Happening}
 use Rattle.commands.specs.declared.Happening.the-variants as the
-use Rattle.commands.specs.declared.Two.{Two}
-use Rattle.commands.specs.declared.Two.the-variants as two
-use Rattle.commands.specs.declared.Three.{Three}
-use Rattle.commands.specs.declared.Three.the-variants as three
-use Rattle.commands.specs.Arguments.{both}
+use Rattle.arguments.specs.declared.Two.{Two}
+use Rattle.arguments.specs.declared.Two.the-variants as two
+use Rattle.arguments.specs.declared.Three.{Three}
+use Rattle.arguments.specs.declared.Three.the-variants as three
+use Rattle.arguments.specs.Arguments.{both}
 use Rattle.paper.specs.Numbers.{done}
 use Rattle.machine.specs.declared.Closing.{Closing}
 use Rattle.machine.specs.declared.Codes.{Codes}
@@ -27,8 +27,8 @@ use Rattle.machine.specs.Events as ev
 use Rattle.machine.specs.State as state
 use Rattle.happenings.specs.declared.Answered.{Answered}
 use Rattle.phrases.specs.Phrases.{refused, bit, buffered}
-use Rattle.phrases.specs.Words as words
-use Rattle.phrases.specs.Words.{octet, count, lentOf}
+use Rattle.arguments.specs.Words as words
+use Rattle.arguments.specs.Words.{octet, count, lentOf}
 
 abbrev pub stayed : Machine → ℕ → Answered
 stayed m at = record { machine = m; at = at }

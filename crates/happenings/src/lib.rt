@@ -1,9 +1,9 @@
 // The machine's commands: fresh, the eight events, ledger.
 ghost use mathlib.Core.Path.{_≡_};
 ghost use Rattle.happenings.specs.Happenings as happenings;
+use arguments::Three;
+use arguments::Two;
 use commands::Happening;
-use commands::Three;
-use commands::Two;
 use figures::Number;
 use machine::Closing;
 use machine::Codes;
@@ -11,7 +11,6 @@ use machine::Given;
 use machine::Machine;
 use machine::Outcome;
 use machine::Tally;
-use phrases::words;
 
 // The machine after a command, and the page's next place.
 pub struct Answered {
@@ -59,7 +58,7 @@ fn fresh(out: &mut [u8], at: usize) -> Answered
 fn fresh_after(line: &[u8], m: Machine, out: &mut [u8], at: usize) -> Answered
     ensures { λ r. ⌜ (r .machine, (now (out .exit), r .at)) ≡ happenings.freshAfter (now (line .entry)) m (now (out .entry), at) ⌝ }
 {
-    fresh_counted(words::decimal(line, 1), m, out, at)
+    fresh_counted(arguments::decimal(line, 1), m, out, at)
 }
 
 // The same with the number that was read.
@@ -68,7 +67,7 @@ fn fresh_counted(number: Number, m: Machine, out: &mut [u8], at: usize) -> Answe
 {
     match number {
         Number::Value(n) => Answered {
-            machine: events::fresh_after(words::count(n)),
+            machine: events::fresh_after(arguments::count(n)),
             at: phrases::number(paper::DONE, out, at),
         },
         Number::Refused(reason) => stay(m, phrases::refuse(reason, out, at)),
@@ -101,7 +100,7 @@ fn write(line: &[u8], m: Machine, out: &mut [u8], at: usize) -> Answered
     ensures { λ r. ⌜ (r .machine, (now (out .exit), r .at)) ≡ happenings.write (now (line .entry)) m (now (out .entry), at) ⌝ }
 {
     write_read(
-        commands::both(words::pair(line, 1), words::pair(line, 2)),
+        arguments::both(arguments::pair(line, 1), arguments::pair(line, 2)),
         m,
         out,
         at,
@@ -114,7 +113,7 @@ fn write_read(numbers: Two, m: Machine, out: &mut [u8], at: usize) -> Answered
 {
     match numbers {
         Two::Values(register, value) => tell_outcome(
-            events::write(m, words::octet(register), words::octet(value)),
+            events::write(m, arguments::octet(register), arguments::octet(value)),
             out,
             at,
         ),
@@ -126,7 +125,7 @@ fn write_read(numbers: Two, m: Machine, out: &mut [u8], at: usize) -> Answered
 fn finish(line: &[u8], m: Machine, out: &mut [u8], at: usize) -> Answered
     ensures { λ r. ⌜ (r .machine, (now (out .exit), r .at)) ≡ happenings.finish (now (line .entry)) m (now (out .entry), at) ⌝ }
 {
-    finish_read(words::decimals(line, 1, 2, 3), m, out, at)
+    finish_read(arguments::decimals(line, 1, 2, 3), m, out, at)
 }
 
 // The same with the counts that were read.
@@ -135,7 +134,12 @@ fn finish_read(numbers: Three, m: Machine, out: &mut [u8], at: usize) -> Answere
 {
     match numbers {
         Three::Values(t, p, h) => tell_outcome(
-            events::finish(m, words::count(t), words::count(p), words::count(h)),
+            events::finish(
+                m,
+                arguments::count(t),
+                arguments::count(p),
+                arguments::count(h),
+            ),
             out,
             at,
         ),
@@ -147,7 +151,7 @@ fn finish_read(numbers: Three, m: Machine, out: &mut [u8], at: usize) -> Answere
 fn open(line: &[u8], m: Machine, out: &mut [u8], at: usize) -> Answered
     ensures { λ r. ⌜ (r .machine, (now (out .exit), r .at)) ≡ happenings.opening (now (line .entry)) m (now (out .entry), at) ⌝ }
 {
-    open_read(words::pair(line, 1), m, out, at)
+    open_read(arguments::pair(line, 1), m, out, at)
 }
 
 // The same with the address that was read.
@@ -155,7 +159,7 @@ fn open_read(address: Number, m: Machine, out: &mut [u8], at: usize) -> Answered
     ensures { λ r. ⌜ (r .machine, (now (out .exit), r .at)) ≡ happenings.openRead address m (now (out .entry), at) ⌝ }
 {
     match address {
-        Number::Value(n) => tell_outcome(events::open(m, words::octet(n)), out, at),
+        Number::Value(n) => tell_outcome(events::open(m, arguments::octet(n)), out, at),
         Number::Refused(reason) => stay(m, phrases::refuse(reason, out, at)),
     }
 }
@@ -197,7 +201,7 @@ fn tell_given(given: Given, out: &mut [u8], at: usize) -> Answered
 fn close(line: &[u8], m: Machine, out: &mut [u8], at: usize) -> Answered
     ensures { λ r. ⌜ (r .machine, (now (out .exit), r .at)) ≡ happenings.close (now (line .entry)) m (now (out .entry), at) ⌝ }
 {
-    close_read(words::length(line, 1), m, out, at)
+    close_read(arguments::length(line, 1), m, out, at)
 }
 
 // The same with the length that was read.
@@ -214,8 +218,8 @@ fn close_read(length: Number, m: Machine, out: &mut [u8], at: usize) -> Answered
 fn close_with(length: usize, m: Machine, out: &mut [u8], at: usize) -> Answered
     ensures { λ r. ⌜ (r .machine, (now (out .exit), r .at)) ≡ happenings.closeWith length m (now (out .entry), at) ⌝ }
 {
-    let mut lent = words::filled();
-    let n = words::within(length);
+    let mut lent = arguments::filled();
+    let n = arguments::within(length);
     close_into(m, &mut lent[..n], out, at)
 }
 
@@ -252,9 +256,9 @@ fn tell_whole(whole: bool, out: &mut [u8], at: usize) -> usize
     ensures { λ r. ⌜ (now (out .exit), r) ≡ happenings.wholeTold whole (now (out .entry), at) ⌝ }
 {
     if whole {
-        figures::write_text(b" whole", out, at)
+        pages::write_text(b" whole", out, at)
     } else {
-        figures::write_text(b" partial", out, at)
+        pages::write_text(b" partial", out, at)
     }
 }
 

@@ -1,7 +1,7 @@
 -- What a line is answered, and the machine afterwards: nothing for an empty line, and a newline after every answer.
 use Prim.Native.Nat.{ℕ}
 use mathlib.Core.List.{List}
-use Rattle.figures.specs.Page.{Page}
+use Rattle.pages.specs.Page.{Page}
 use Rattle.commands.specs.declared.Asked.{Asked}
 use Rattle.commands.specs.declared.Asked.the-variants as asks
 use Rattle.commands.specs.declared.Command.{Command}

@@ -2,15 +2,15 @@
 use Prim.Native.Nat.{ℕ}
 use mathlib.Core.List.{List}
 use lib.ListN.{take}
-use Rattle.figures.specs.Page.{Page, letters, _▹_}
-use Rattle.figures.specs.Digits.{decimal, signed}
+use Rattle.pages.specs.Page.{Page, letters, _▹_}
+use Rattle.pages.specs.Digits.{decimal, signed}
 use Rattle.commands.specs.declared.Reading.{Reading}
 use Rattle.commands.specs.declared.Reading.the-variants.{Cal, Comp}
-use Rattle.commands.specs.declared.Two.{Two}
-use Rattle.commands.specs.declared.Two.the-variants as two
-use Rattle.commands.specs.declared.Three.{Three}
-use Rattle.commands.specs.declared.Three.the-variants as three
-use Rattle.commands.specs.Arguments.{both, allThree}
+use Rattle.arguments.specs.declared.Two.{Two}
+use Rattle.arguments.specs.declared.Two.the-variants as two
+use Rattle.arguments.specs.declared.Three.{Three}
+use Rattle.arguments.specs.declared.Three.the-variants as three
+use Rattle.arguments.specs.Arguments.{both, allThree}
 use Rattle.paper.specs.Numbers.{done}
 use Rattle.calibration.specs.declared.TemperatureWords.{TemperatureWords}
 use Rattle.calibration.specs.declared.PressureWords.{PressureWords}
@@ -28,7 +28,7 @@ use Rattle.compensation.specs.declared.Answer.{Answer}
 use Rattle.compensation.specs.declared.Answer.the-variants as reading
 use Rattle.compensation.specs.Compensation.{compensated}
 use Rattle.phrases.specs.Phrases.{refused}
-use Rattle.phrases.specs.Words.{bytesAt, decimals, code}
+use Rattle.arguments.specs.Words.{bytesAt, decimals, code}
 
 -- ---- cal B1 B2
 

@@ -1,28 +1,27 @@
 // The chip's words and a reading: cal, comp.
 ghost use mathlib.Core.Path.{_≡_};
 ghost use Rattle.readings.specs.Readings as readings;
+use arguments::Three;
+use arguments::Two;
 use calibration::Calibration;
 use calibration::HumidityWords;
 use calibration::PressureWords;
 use calibration::TemperatureWords;
-use commands::Three;
-use commands::Two;
 use compensation::Answer;
 use figures::front;
 use formulas::HumidityAnswer;
 use formulas::PressureAnswer;
 use formulas::TemperatureAnswer;
-use phrases::words;
 
 // cal B1 B2
 pub fn cal(line: &[u8], out: &mut [u8], at: usize) -> usize
     ensures { λ r. ⌜ (now (out .exit), r) ≡ readings.cal (now (line .entry)) (now (out .entry), at) ⌝ }
 {
-    let mut one = words::room();
-    let mut two = words::room();
-    let first = words::bytes(line, 1, &mut one);
-    let second = words::bytes(line, 2, &mut two);
-    calibrate(commands::both(first, second), &one, &two, out, at)
+    let mut one = arguments::room();
+    let mut two = arguments::room();
+    let first = arguments::bytes(line, 1, &mut one);
+    let second = arguments::bytes(line, 2, &mut two);
+    calibrate(arguments::both(first, second), &one, &two, out, at)
 }
 
 // Answers the words of two blocks that were read.
@@ -104,15 +103,15 @@ fn tell_humidity_words(w: HumidityWords, out: &mut [u8], at: usize) -> usize
 pub fn comp(line: &[u8], out: &mut [u8], at: usize) -> usize
     ensures { λ r. ⌜ (now (out .exit), r) ≡ readings.comp (now (line .entry)) (now (out .entry), at) ⌝ }
 {
-    let mut one = words::room();
-    let mut two = words::room();
-    let mut data = words::room();
-    let first = words::bytes(line, 1, &mut one);
-    let second = words::bytes(line, 2, &mut two);
-    let third = words::bytes(line, 3, &mut data);
+    let mut one = arguments::room();
+    let mut two = arguments::room();
+    let mut data = arguments::room();
+    let first = arguments::bytes(line, 1, &mut one);
+    let second = arguments::bytes(line, 2, &mut two);
+    let third = arguments::bytes(line, 3, &mut data);
     compensate(
-        commands::all_three(first, second, third),
-        words::decimals(line, 4, 5, 6),
+        arguments::all_three(first, second, third),
+        arguments::decimals(line, 4, 5, 6),
         &one,
         &two,
         &data,
@@ -163,9 +162,9 @@ fn compensate_coded(
                 one,
                 two,
                 data,
-                words::code(t),
-                words::code(p),
-                words::code(h),
+                arguments::code(t),
+                arguments::code(p),
+                arguments::code(h),
             ),
             out,
             at,

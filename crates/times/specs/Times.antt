@@ -2,22 +2,22 @@
 use Prim.Native.Nat.{ℕ}
 use mathlib.Core.List.{List, [], _∷_}
 use lib.ListN.{take}
-use Rattle.figures.specs.Page.{Page, letters, _▹_}
-use Rattle.figures.specs.Digits.{decimal}
+use Rattle.pages.specs.Page.{Page, letters, _▹_}
+use Rattle.pages.specs.Digits.{decimal}
 use Rattle.commands.specs.declared.Time.{Time}
 use Rattle.commands.specs.declared.Time.the-variants.{WaitMaximum, WaitTypical, Poll}
-use Rattle.commands.specs.declared.Two.{Two}
-use Rattle.commands.specs.declared.Two.the-variants as two
-use Rattle.commands.specs.declared.Three.{Three}
-use Rattle.commands.specs.declared.Three.the-variants as three
-use Rattle.commands.specs.Arguments.{both}
+use Rattle.arguments.specs.declared.Two.{Two}
+use Rattle.arguments.specs.declared.Two.the-variants as two
+use Rattle.arguments.specs.declared.Three.{Three}
+use Rattle.arguments.specs.declared.Three.the-variants as three
+use Rattle.arguments.specs.Arguments.{both}
 use Rattle.paper.specs.Answers.{Answer}
 use Rattle.waiting.specs.declared.Figures.{Figures}
 use Rattle.waiting.specs.Waiting.{waited, maximum, typical}
 use Rattle.waiting.specs.Polling.{polled}
 use Rattle.phrases.specs.Phrases.{refused}
-use Rattle.phrases.specs.Words as words
-use Rattle.phrases.specs.Words.{bytesAt, decimals, code}
+use Rattle.arguments.specs.Words as words
+use Rattle.arguments.specs.Words.{bytesAt, decimals, code}
 
 -- ---- wait max t p h, wait typ t p h
 

@@ -3,11 +3,10 @@ ghost use mathlib.Core.Path.{_≡_};
 ghost use Rattle.waiting.specs.Waiting.{maximum, typical, waitAnswer};
 ghost use Rattle.waiting.specs.Polling.{pollAnswer};
 ghost use Rattle.times.specs.Times as times;
-use commands::Three;
+use arguments::Three;
+use arguments::Two;
 use commands::Time;
-use commands::Two;
 use figures::front;
-use phrases::words;
 use waiting::Polled;
 use waiting::Wait;
 
@@ -26,14 +25,14 @@ pub fn answer(time: Time, line: &[u8], out: &mut [u8], at: usize) -> usize
 fn wait_maximum(line: &[u8], out: &mut [u8], at: usize) -> usize
     ensures { λ r. ⌜ (now (out .exit), r) ≡ times.wait maximum (now (line .entry)) (now (out .entry), at) ⌝ }
 {
-    wait_at_most(words::decimals(line, 2, 3, 4), out, at)
+    wait_at_most(arguments::decimals(line, 2, 3, 4), out, at)
 }
 
 // wait typ t p h
 fn wait_typical(line: &[u8], out: &mut [u8], at: usize) -> usize
     ensures { λ r. ⌜ (now (out .exit), r) ≡ times.wait typical (now (line .entry)) (now (out .entry), at) ⌝ }
 {
-    wait_typically(words::decimals(line, 2, 3, 4), out, at)
+    wait_typically(arguments::decimals(line, 2, 3, 4), out, at)
 }
 
 // Answers the maximum wait at codes that were read.
@@ -42,7 +41,7 @@ fn wait_at_most(codes: Three, out: &mut [u8], at: usize) -> usize
 {
     match codes {
         Three::Values(t, p, h) => tell_wait(
-            waiting::maximum_wait(words::code(t), words::code(p), words::code(h)),
+            waiting::maximum_wait(arguments::code(t), arguments::code(p), arguments::code(h)),
             out,
             at,
         ),
@@ -56,7 +55,7 @@ fn wait_typically(codes: Three, out: &mut [u8], at: usize) -> usize
 {
     match codes {
         Three::Values(t, p, h) => tell_wait(
-            waiting::typical_wait(words::code(t), words::code(p), words::code(h)),
+            waiting::typical_wait(arguments::code(t), arguments::code(p), arguments::code(h)),
             out,
             at,
         ),
@@ -81,10 +80,10 @@ fn tell_wait(wait: Wait, out: &mut [u8], at: usize) -> usize
 fn poll(line: &[u8], out: &mut [u8], at: usize) -> usize
     ensures { λ r. ⌜ (now (out .exit), r) ≡ times.poll (now (line .entry)) (now (out .entry), at) ⌝ }
 {
-    let mut status = words::room();
-    let allowance = words::decimal(line, 1);
-    let length = words::bytes(line, 2, &mut status);
-    poll_read(commands::both(allowance, length), &status, out, at)
+    let mut status = arguments::room();
+    let allowance = arguments::decimal(line, 1);
+    let length = arguments::bytes(line, 2, &mut status);
+    poll_read(arguments::both(allowance, length), &status, out, at)
 }
 
 // Answers a poll of status bytes that were read.

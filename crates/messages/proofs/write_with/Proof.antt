@@ -1,6 +1,6 @@
 -- The part of the filled buffer that is of the length asked.
 use Rattle.messages.specs.Messages.{writeWith}
-use Rattle.phrases.specs.Words.{lentOf}
+use Rattle.arguments.specs.Words.{lentOf}
 use Prim.Native.Nat.{_≤_}
 use native.Mathlib.Omega.{arith}
 use mathlib.Core.Path.{sym}

@@ -1,6 +1,6 @@
 -- The allowance and the bytes that were read.
 use Rattle.times.specs.Times.{poll}
-use Rattle.phrases.specs.Read.{read}
+use Rattle.arguments.specs.Read.{read}
 use borrow.Author.Needs.{needs}
 use Rattle.times.proofs.poll.Statement.{statement}
 use Rattle.times.proofs.poll.Tie as tie
