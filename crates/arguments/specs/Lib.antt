@@ -2,3 +2,4 @@
 pub mod Arguments
 pub mod Words
 pub mod Read
+pub mod Lent

@@ -33,9 +33,6 @@ abbrev pub waitCoded : Figures → Three → Page → Page
 waitCoded figures (three.Refused reason) page = refused reason page
 waitCoded figures (three.Values t p h) page = waitTold (waited figures (code t) (code p) (code h)) page
 
-unfoldable pub wait : Figures → List ℕ → Page → Page
-wait figures line p = waitCoded figures (decimals 2 3 4 line) p
-
 -- ---- poll ALLOWANCE STATUS
 
 -- the place and the polls made, or the polls alone
@@ -57,6 +54,6 @@ poll line p = pollRead (both (words.decimal 1 line) (bytesAt 2 line .0)) (bytesA
 -- ---- each of them
 
 abbrev pub answered : Time → List ℕ → Page → Page
-answered WaitMaximum line p = wait maximum line p
-answered WaitTypical line p = wait typical line p
+answered WaitMaximum line p = waitCoded maximum (decimals 2 3 4 line) p
+answered WaitTypical line p = waitCoded typical (decimals 2 3 4 line) p
 answered Poll line p = poll line p

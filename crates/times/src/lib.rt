@@ -15,27 +15,13 @@ pub fn answer(time: Time, line: &[u8], out: &mut [u8], at: usize) -> usize
     ensures { λ r. ⌜ (now (out .exit), r) ≡ times.answered time (now (line .entry)) (now (out .entry), at) ⌝ }
 {
     match time {
-        Time::WaitMaximum => wait_maximum(line, out, at),
-        Time::WaitTypical => wait_typical(line, out, at),
+        Time::WaitMaximum => wait_at_most(arguments::decimals(line, 2, 3, 4), out, at),
+        Time::WaitTypical => wait_typically(arguments::decimals(line, 2, 3, 4), out, at),
         Time::Poll => poll(line, out, at),
     }
 }
 
-// wait max t p h
-fn wait_maximum(line: &[u8], out: &mut [u8], at: usize) -> usize
-    ensures { λ r. ⌜ (now (out .exit), r) ≡ times.wait maximum (now (line .entry)) (now (out .entry), at) ⌝ }
-{
-    wait_at_most(arguments::decimals(line, 2, 3, 4), out, at)
-}
-
-// wait typ t p h
-fn wait_typical(line: &[u8], out: &mut [u8], at: usize) -> usize
-    ensures { λ r. ⌜ (now (out .exit), r) ≡ times.wait typical (now (line .entry)) (now (out .entry), at) ⌝ }
-{
-    wait_typically(arguments::decimals(line, 2, 3, 4), out, at)
-}
-
-// Answers the maximum wait at codes that were read.
+// wait max t p h: answers the maximum wait at codes that were read.
 fn wait_at_most(codes: Three, out: &mut [u8], at: usize) -> usize
     ensures { λ r. ⌜ (now (out .exit), r) ≡ times.waitCoded maximum codes (now (out .entry), at) ⌝ }
 {
@@ -49,7 +35,7 @@ fn wait_at_most(codes: Three, out: &mut [u8], at: usize) -> usize
     }
 }
 
-// Answers the typical wait at codes that were read.
+// wait typ t p h: answers the typical wait at codes that were read.
 fn wait_typically(codes: Three, out: &mut [u8], at: usize) -> usize
     ensures { λ r. ⌜ (now (out .exit), r) ≡ times.waitCoded typical codes (now (out .entry), at) ⌝ }
 {
