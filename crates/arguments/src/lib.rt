@@ -23,9 +23,6 @@ pub enum Three {
 // The longest buffer that a line can ask for.
 pub const LONGEST_BUFFER: usize = 256;
 
-// The bytes that a line can hold at most: two digits make one.
-const ROOM: usize = 2048;
-
 // Two numbers, the first refused deciding.
 pub fn both(first: Number, second: Number) -> Two
     ensures { λ r. ⌜ r ≡ several.both first second ⌝ }
@@ -105,18 +102,18 @@ pub fn decimals(line: &[u8], first: usize, second: usize, third: usize) -> Three
     )
 }
 
-// So many zeros, for the bytes of a word.
+// Zeros, one for each byte that a line can hold at most: two digits make one.
 pub fn room() -> [u8; 2048]
     ensures { λ r. ⌜ (r ≡ among.room) × (2048 ≡ size r) ⌝ }
 {
-    [0; ROOM]
+    [0; 2048]
 }
 
 // A lent buffer of the longest length, filled with AA.
 pub fn filled() -> [u8; 256]
     ensures { λ r. ⌜ (r ≡ among.filled) × (256 ≡ size r) ⌝ }
 {
-    [0xAA; LONGEST_BUFFER]
+    [0xAA; 256]
 }
 
 // A setting code as a byte: one that a byte does not hold is out of range all the same.

@@ -91,8 +91,9 @@ completed verbs.Spi second count = present count (spi second)
 completed verbs.Fresh second count = cond (eqb count 2) (asks.Command (the.Happening happenings.FreshAfter)) (asks.Command (the.Happening happenings.Fresh))
 completed verbs.Unknown second count = asks.Refused UnknownWord
 
-unfoldable pub command : List ℕ → Asked
-command line = completed (verb (word 0 line)) (word 1 line) (words.count line)
+-- the command of a line of so many words
+unfoldable pub command : List ℕ → ℕ → Asked
+command line count = completed (verb (word 0 line)) (word 1 line) count
 
 -- ---- the number of words
 
@@ -146,4 +147,4 @@ unfoldable pub asked : List ℕ → Asked
 asked line =
     cond (ltb longestLine (length line)) (asks.Refused TooLong)
     (cond (eqb (length line) 0) asks.Nothing
-    (counted (command line) (words.count line)))
+    (counted (command line (words.count line)) (words.count line)))

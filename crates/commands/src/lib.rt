@@ -72,5 +72,6 @@ pub fn read(line: &[u8]) -> Asked
     if line.len() == 0 {
         return Asked::Nothing;
     }
-    verbs::counted(verbs::command(line), words::count(line))
+    let count = words::count(line);
+    verbs::counted(verbs::command(line, count), count)
 }

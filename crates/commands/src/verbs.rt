@@ -103,11 +103,11 @@ fn burst(first: &[u8]) -> Verb
     Verb::Unknown
 }
 
-// The command that a line's first word, and its second where that is wanted, name.
-pub fn command(line: &[u8]) -> Asked
-    ensures { λ r. ⌜ r ≡ known.command (now (line .entry)) ⌝ }
+// The command that the first word of a line of so many words, and its second where that is wanted, name.
+pub fn command(line: &[u8], count: usize) -> Asked
+    ensures { λ r. ⌜ r ≡ known.command (now (line .entry)) count ⌝ }
 {
-    completed(first_verb(word(line, 0)), word(line, 1), words::count(line))
+    completed(first_verb(word(line, 0)), word(line, 1), count)
 }
 
 // The command that a verb makes with a second word, on a line of so many words.
