@@ -1,4 +1,7 @@
 // The bench: reads commands from standard input, one a line, and writes their answers to standard output.
+ghost use Prim.Native.Nat.{_≤_};
+ghost use lib.ListN.{length};
+use figures::front;
 use libc::STDIN_FILENO;
 use libc::STDOUT_FILENO;
 use machine::Machine;
@@ -21,14 +24,14 @@ fn make_room(out: &[u8], at: usize) -> usize {
     if at < FULL {
         return at;
     }
-    io::write_all(STDOUT_FILENO, figures::front(out, at));
+    io::write_all(STDOUT_FILENO, front(out, at));
     0
 }
 
-// Answers the line that is held.
+// Answers a line, after which none is held.
 fn answer_line(kept: Bench, line: &[u8], out: &mut [u8]) -> Bench {
     let machine = kept.machine;
-    let done = lines::answer(figures::front(line, kept.held), machine, out, kept.at);
+    let done = lines::answer(line, machine, out, kept.at);
     let next = done.machine;
     Bench {
         machine: next,
@@ -37,28 +40,51 @@ fn answer_line(kept: Bench, line: &[u8], out: &mut [u8]) -> Bench {
     }
 }
 
-// Takes one byte of the input: a newline ends the line that is held, and any other byte is held.
-fn take_byte(kept: Bench, byte: u8, line: &mut [u8], out: &mut [u8]) -> Bench {
-    if byte == b'\n' {
-        return answer_line(kept, line, out);
-    }
+// Holds a piece of a line, after what is held of it.
+fn hold(kept: Bench, piece: &[u8], line: &mut [u8]) -> Bench {
     let machine = kept.machine;
     Bench {
         machine,
-        held: figures::write_byte(byte, line, kept.held),
+        held: pages::write_text(piece, line, kept.held),
         at: kept.at,
     }
 }
 
-// Takes a block byte by byte.
-fn answer_block(first: Bench, block: &[u8], line: &mut [u8], out: &mut [u8]) -> Bench {
-    let mut kept = first;
-    let mut i = 0;
+// Takes the last piece of a line, and answers the line: where it stands, if nothing is held of it.
+fn end_line(kept: Bench, piece: &[u8], line: &mut [u8], out: &mut [u8]) -> Bench {
+    if kept.held == 0 {
+        return answer_line(kept, piece, out);
+    }
+    let whole = hold(kept, piece, line);
+    answer_line(whole, front(line, whole.held), out)
+}
+
+// The place of the first newline from a place on, or the block's end.
+fn newline(block: &[u8], from: usize) -> usize
+    requires { ⌜ from ≤ length (now block) ⌝ }
+    ensures { λ r. ⌜ (from ≤ r) × (r ≤ length (now (block .entry))) ⌝ }
+{
+    let mut i = from;
     while i < block.len() {
-        kept = take_byte(kept, block[i], line, out);
+        if block[i] == b'\n' {
+            return i;
+        }
         i += 1;
     }
-    kept
+    i
+}
+
+// Takes a block: the lines that end in it are answered, and what stands after them is held.
+fn answer_block(first: Bench, block: &[u8], line: &mut [u8], out: &mut [u8]) -> Bench {
+    let mut kept = first;
+    let mut start = 0;
+    let mut end = newline(block, 0);
+    while end < block.len() {
+        kept = end_line(kept, &block[start..end], line, out);
+        start = end + 1;
+        end = newline(block, start);
+    }
+    hold(kept, &block[start..], line)
 }
 
 // What is left after a read: whether there may be more, and what is kept.
@@ -66,7 +92,6 @@ struct Turn {
     more: bool,
     kept: Bench,
 }
-
 // Reads one block and answers its lines.
 fn take_block(kept: Bench, line: &mut [u8], out: &mut [u8]) -> Turn {
     let mut block = io::large_buffer();
@@ -99,8 +124,8 @@ fn take_blocks(first: Bench, line: &mut [u8], out: &mut [u8]) -> Bench {
 
 // Answers a last line that lacks its newline, and writes out what is left of the page.
 fn finish(kept: Bench, line: &[u8], out: &mut [u8]) {
-    let last = answer_line(kept, line, out);
-    io::write_all(STDOUT_FILENO, figures::front(out, last.at));
+    let last = answer_line(kept, front(line, kept.held), out);
+    io::write_all(STDOUT_FILENO, front(out, last.at));
 }
 
 fn main() {

@@ -2,14 +2,15 @@
 use Prim.Native.Nat.{ℕ}
 use mathlib.Core.List.{List}
 use mathlib.Core.Path.{_≡_, refl}
-use Rattle.figures.specs.Page.{letters}
+use Rattle.pages.specs.Page.{letters}
 use Rattle.figures.specs.declared.Reason.the-variants.{UnknownWord, WrongNumberOfWords}
 use Rattle.commands.specs.declared.Asked.the-variants.{Nothing, Command, Refused}
 use Rattle.commands.specs.declared.Command.the-variants as the
-use Rattle.commands.specs.Words as words
+use Rattle.commands.specs.declared.Time.the-variants.{WaitMaximum}
+use Rattle.words.specs.Words as words
 use Rattle.commands.specs.Commands as known
 
-pub wait : known.asked (letters "wait max 5 5 5") ≡ Command the.WaitMaximum
+pub wait : known.asked (letters "wait max 5 5 5") ≡ Command (the.Time WaitMaximum)
 unfolding known.asked known.command known.verb known.wait words.count words.word words.afterSpaces words.upToSpace words.fromSpace words.is words.agrees
 wait = refl
 
@@ -32,7 +33,3 @@ spaces-alone = refl
 pub empty : known.asked (letters "") ≡ Nothing
 unfolding known.asked
 empty = refl
-
-pub third-word : words.word 2 (letters "poll 2 080900") ≡ letters "080900"
-unfolding words.word words.afterSpaces words.upToSpace words.fromSpace
-third-word = refl

@@ -1,5 +1,3 @@
--- The words of a line, the command that they name, and the numbers among them.
-pub mod Words
+-- The command that the words of a line name.
 pub mod Commands
-pub mod Arguments
 pub mod Examples

@@ -3,9 +3,12 @@ ghost use mathlib.Core.Path.{_≡_};
 ghost use Rattle.commands.specs.Commands as known;
 use crate::Asked;
 use crate::Command;
-use crate::scan;
-use crate::word;
+use crate::Happening;
+use crate::Message;
+use crate::Reading;
+use crate::Time;
 use figures::Reason;
+use words::word;
 
 // What a first word says: a command by itself, one that a second word completes, one that may have a number, or none.
 pub enum Verb {
@@ -21,17 +24,17 @@ pub enum Verb {
 fn first_verb(first: &[u8]) -> Verb
     ensures { λ r. ⌜ r ≡ known.verb (now (first .entry)) ⌝ }
 {
-    if scan::is(first, b"cal") {
-        return Verb::Alone(Command::Cal);
+    if words::is(first, b"cal") {
+        return Verb::Alone(Command::Reading(Reading::Cal));
     }
-    if scan::is(first, b"comp") {
-        return Verb::Alone(Command::Comp);
+    if words::is(first, b"comp") {
+        return Verb::Alone(Command::Reading(Reading::Comp));
     }
-    if scan::is(first, b"wait") {
+    if words::is(first, b"wait") {
         return Verb::Wait;
     }
-    if scan::is(first, b"poll") {
-        return Verb::Alone(Command::Poll);
+    if words::is(first, b"poll") {
+        return Verb::Alone(Command::Time(Time::Poll));
     }
     message(first)
 }
@@ -40,10 +43,10 @@ fn first_verb(first: &[u8]) -> Verb
 fn message(first: &[u8]) -> Verb
     ensures { λ r. ⌜ r ≡ known.message (now (first .entry)) ⌝ }
 {
-    if scan::is(first, b"i2c") {
+    if words::is(first, b"i2c") {
         return Verb::I2c;
     }
-    if scan::is(first, b"spi") {
+    if words::is(first, b"spi") {
         return Verb::Spi;
     }
     event(first)
@@ -53,17 +56,17 @@ fn message(first: &[u8]) -> Verb
 fn event(first: &[u8]) -> Verb
     ensures { λ r. ⌜ r ≡ known.event (now (first .entry)) ⌝ }
 {
-    if scan::is(first, b"fresh") {
+    if words::is(first, b"fresh") {
         return Verb::Fresh;
     }
-    if scan::is(first, b"power") {
-        return Verb::Alone(Command::Power);
+    if words::is(first, b"power") {
+        return Verb::Alone(Command::Happening(Happening::Power));
     }
-    if scan::is(first, b"copied") {
-        return Verb::Alone(Command::Copied);
+    if words::is(first, b"copied") {
+        return Verb::Alone(Command::Happening(Happening::Copied));
     }
-    if scan::is(first, b"wake") {
-        return Verb::Alone(Command::Wake);
+    if words::is(first, b"wake") {
+        return Verb::Alone(Command::Happening(Happening::Wake));
     }
     change(first)
 }
@@ -72,11 +75,11 @@ fn event(first: &[u8]) -> Verb
 fn change(first: &[u8]) -> Verb
     ensures { λ r. ⌜ r ≡ known.change (now (first .entry)) ⌝ }
 {
-    if scan::is(first, b"write") {
-        return Verb::Alone(Command::Write);
+    if words::is(first, b"write") {
+        return Verb::Alone(Command::Happening(Happening::Write));
     }
-    if scan::is(first, b"finish") {
-        return Verb::Alone(Command::Finish);
+    if words::is(first, b"finish") {
+        return Verb::Alone(Command::Happening(Happening::Finish));
     }
     burst(first)
 }
@@ -85,26 +88,26 @@ fn change(first: &[u8]) -> Verb
 fn burst(first: &[u8]) -> Verb
     ensures { λ r. ⌜ r ≡ known.burst (now (first .entry)) ⌝ }
 {
-    if scan::is(first, b"open") {
-        return Verb::Alone(Command::Open);
+    if words::is(first, b"open") {
+        return Verb::Alone(Command::Happening(Happening::Open));
     }
-    if scan::is(first, b"byte") {
-        return Verb::Alone(Command::Byte);
+    if words::is(first, b"byte") {
+        return Verb::Alone(Command::Happening(Happening::Byte));
     }
-    if scan::is(first, b"close") {
-        return Verb::Alone(Command::Close);
+    if words::is(first, b"close") {
+        return Verb::Alone(Command::Happening(Happening::Close));
     }
-    if scan::is(first, b"ledger") {
-        return Verb::Alone(Command::Ledger);
+    if words::is(first, b"ledger") {
+        return Verb::Alone(Command::Happening(Happening::Ledger));
     }
     Verb::Unknown
 }
 
-// The command that a line's first word, and its second where that is wanted, name.
-pub fn command(line: &[u8]) -> Asked
-    ensures { λ r. ⌜ r ≡ known.command (now (line .entry)) ⌝ }
+// The command that the first word of a line of so many words, and its second where that is wanted, name.
+pub fn command(line: &[u8], count: usize) -> Asked
+    ensures { λ r. ⌜ r ≡ known.command (now (line .entry)) count ⌝ }
 {
-    completed(first_verb(word(line, 0)), word(line, 1), scan::count(line))
+    completed(first_verb(word(line, 0)), word(line, 1), count)
 }
 
 // The command that a verb makes with a second word, on a line of so many words.
@@ -117,9 +120,9 @@ fn completed(verb: Verb, second: &[u8], count: usize) -> Asked
         Verb::I2c => present(count, i2c(second)),
         Verb::Spi => present(count, spi(second)),
         Verb::Fresh => if count == 2 {
-            Asked::Command(Command::FreshAfter)
+            Asked::Command(Command::Happening(Happening::FreshAfter))
         } else {
-            Asked::Command(Command::Fresh)
+            Asked::Command(Command::Happening(Happening::Fresh))
         },
         Verb::Unknown => Asked::Refused(Reason::UnknownWord),
     }
@@ -140,11 +143,11 @@ fn present(count: usize, with_it: Asked) -> Asked
 fn wait(second: &[u8]) -> Asked
     ensures { λ r. ⌜ r ≡ known.wait (now (second .entry)) ⌝ }
 {
-    if scan::is(second, b"max") {
-        return Asked::Command(Command::WaitMaximum);
+    if words::is(second, b"max") {
+        return Asked::Command(Command::Time(Time::WaitMaximum));
     }
-    if scan::is(second, b"typ") {
-        return Asked::Command(Command::WaitTypical);
+    if words::is(second, b"typ") {
+        return Asked::Command(Command::Time(Time::WaitTypical));
     }
     Asked::Refused(Reason::UnknownWord)
 }
@@ -153,14 +156,14 @@ fn wait(second: &[u8]) -> Asked
 fn i2c(second: &[u8]) -> Asked
     ensures { λ r. ⌜ r ≡ known.i2c (now (second .entry)) ⌝ }
 {
-    if scan::is(second, b"write") {
-        return Asked::Command(Command::I2cWrite);
+    if words::is(second, b"write") {
+        return Asked::Command(Command::Message(Message::I2cWrite));
     }
-    if scan::is(second, b"decode") {
-        return Asked::Command(Command::I2cDecode);
+    if words::is(second, b"decode") {
+        return Asked::Command(Command::Message(Message::I2cDecode));
     }
-    if scan::is(second, b"read") {
-        return Asked::Command(Command::I2cRead);
+    if words::is(second, b"read") {
+        return Asked::Command(Command::Message(Message::I2cRead));
     }
     Asked::Refused(Reason::UnknownWord)
 }
@@ -169,14 +172,14 @@ fn i2c(second: &[u8]) -> Asked
 fn spi(second: &[u8]) -> Asked
     ensures { λ r. ⌜ r ≡ known.spi (now (second .entry)) ⌝ }
 {
-    if scan::is(second, b"write") {
-        return Asked::Command(Command::SpiWrite);
+    if words::is(second, b"write") {
+        return Asked::Command(Command::Message(Message::SpiWrite));
     }
-    if scan::is(second, b"decode") {
-        return Asked::Command(Command::SpiDecode);
+    if words::is(second, b"decode") {
+        return Asked::Command(Command::Message(Message::SpiDecode));
     }
-    if scan::is(second, b"read") {
-        return Asked::Command(Command::SpiRead);
+    if words::is(second, b"read") {
+        return Asked::Command(Command::Message(Message::SpiRead));
     }
     Asked::Refused(Reason::UnknownWord)
 }
@@ -186,28 +189,64 @@ fn expected(command: Command) -> usize
     ensures { λ r. ⌜ r ≡ known.expected command ⌝ }
 {
     match command {
-        Command::Cal => 3,
-        Command::Comp => 7,
-        Command::WaitMaximum => 5,
-        Command::WaitTypical => 5,
-        Command::Poll => 3,
-        Command::I2cWrite => 5,
-        Command::I2cDecode => 4,
-        Command::I2cRead => 5,
-        Command::SpiWrite => 4,
-        Command::SpiDecode => 4,
-        Command::SpiRead => 4,
-        Command::Fresh => 1,
-        Command::FreshAfter => 2,
-        Command::Power => 1,
-        Command::Copied => 1,
-        Command::Wake => 1,
-        Command::Write => 3,
-        Command::Finish => 4,
-        Command::Open => 2,
-        Command::Byte => 1,
-        Command::Close => 2,
-        Command::Ledger => 1,
+        Command::Reading(reading) => reading_words(reading),
+        Command::Time(time) => time_words(time),
+        Command::Message(message) => message_words(message),
+        Command::Happening(happening) => happening_words(happening),
+    }
+}
+
+// How many words a reading has.
+fn reading_words(reading: Reading) -> usize
+    ensures { λ r. ⌜ r ≡ known.readingWords reading ⌝ }
+{
+    match reading {
+        Reading::Cal => 3,
+        Reading::Comp => 7,
+    }
+}
+
+// How many words a time has.
+fn time_words(time: Time) -> usize
+    ensures { λ r. ⌜ r ≡ known.timeWords time ⌝ }
+{
+    match time {
+        Time::WaitMaximum => 5,
+        Time::WaitTypical => 5,
+        Time::Poll => 3,
+    }
+}
+
+// How many words a message has.
+fn message_words(message: Message) -> usize
+    ensures { λ r. ⌜ r ≡ known.messageWords message ⌝ }
+{
+    match message {
+        Message::I2cWrite => 5,
+        Message::I2cDecode => 4,
+        Message::I2cRead => 5,
+        Message::SpiWrite => 4,
+        Message::SpiDecode => 4,
+        Message::SpiRead => 4,
+    }
+}
+
+// How many words a happening has.
+fn happening_words(happening: Happening) -> usize
+    ensures { λ r. ⌜ r ≡ known.happeningWords happening ⌝ }
+{
+    match happening {
+        Happening::Fresh => 1,
+        Happening::FreshAfter => 2,
+        Happening::Power => 1,
+        Happening::Copied => 1,
+        Happening::Wake => 1,
+        Happening::Write => 3,
+        Happening::Finish => 4,
+        Happening::Open => 2,
+        Happening::Byte => 1,
+        Happening::Close => 2,
+        Happening::Ledger => 1,
     }
 }
 

@@ -1,6 +1,3 @@
--- A page and the text on it, digits written, digits read.
-pub mod Page
-pub mod Digits
+-- Digits read.
 pub mod Reading
-pub mod Stands
 pub mod Examples

@@ -4,15 +4,17 @@ use Prim.Native.Nat.{ℕ}
 use mathlib.Core.Bool.{Bool, true, false, cond}
 use mathlib.Core.List.{List}
 use lib.Dec.{eqb}
-use Rattle.figures.specs.Page.{Page, letters, _▹_}
-use Rattle.figures.specs.Digits.{decimal, pair}
+use Rattle.pages.specs.Page.{Page, letters, _▹_}
+use Rattle.pages.specs.Digits.{decimal, pair}
 use Rattle.figures.specs.declared.Number.{Number}
 use Rattle.figures.specs.declared.Number.the-variants as number
-use Rattle.commands.specs.declared.Two.{Two}
-use Rattle.commands.specs.declared.Two.the-variants as two
-use Rattle.commands.specs.declared.Three.{Three}
-use Rattle.commands.specs.declared.Three.the-variants as three
-use Rattle.commands.specs.Arguments.{both}
+use Rattle.commands.specs.declared.Happening.{Happening}
+use Rattle.commands.specs.declared.Happening.the-variants as the
+use Rattle.arguments.specs.declared.Two.{Two}
+use Rattle.arguments.specs.declared.Two.the-variants as two
+use Rattle.arguments.specs.declared.Three.{Three}
+use Rattle.arguments.specs.declared.Three.the-variants as three
+use Rattle.arguments.specs.Arguments.{both}
 use Rattle.paper.specs.Numbers.{done}
 use Rattle.machine.specs.declared.Closing.{Closing}
 use Rattle.machine.specs.declared.Codes.{Codes}
@@ -25,8 +27,8 @@ use Rattle.machine.specs.Events as ev
 use Rattle.machine.specs.State as state
 use Rattle.happenings.specs.declared.Answered.{Answered}
 use Rattle.phrases.specs.Phrases.{refused, bit, buffered}
-use Rattle.phrases.specs.Words as words
-use Rattle.phrases.specs.Words.{octet, count, lentOf}
+use Rattle.arguments.specs.Words as words
+use Rattle.arguments.specs.Words.{octet, count, lentOf}
 
 abbrev pub stayed : Machine → ℕ → Answered
 stayed m at = record { machine = m; at = at }
@@ -36,47 +38,26 @@ stayed m at = record { machine = m; at = at }
 unfoldable pub fresh : Page → Machine × Page
 fresh p = (state.fresh, p ▹ decimal done)
 
-abbrev pub freshCounted : Number → Machine → Page → Machine × Page
-freshCounted (number.Refused reason) m p = (m, refused reason p)
-freshCounted (number.Value n) m p = (state.freshAfter (count n), p ▹ decimal done)
-
-unfoldable pub freshAfter : List ℕ → Machine → Page → Machine × Page
-freshAfter line m p = freshCounted (words.decimal 1 line) m p
+abbrev pub freshAfter : Number → Machine → Page → Machine × Page
+freshAfter (number.Refused reason) m p = (m, refused reason p)
+freshAfter (number.Value n) m p = (state.freshAfter (count n), p ▹ decimal done)
 
 -- ---- power, copied, wake, write REG VALUE, finish T P H, open ADDR
 
 unfoldable pub outcomeTold : Outcome → Page → Machine × Page
 outcomeTold o p = (o .machine, p ▹ decimal (o .answer))
 
-unfoldable pub power : Machine → Page → Machine × Page
-power m p = outcomeTold (ev.powered m) p
+abbrev pub write : Two → Machine → Page → Machine × Page
+write (two.Refused reason) m p = (m, refused reason p)
+write (two.Values register value) m p = outcomeTold (ev.written m (octet register) (octet value)) p
 
-unfoldable pub copied : Machine → Page → Machine × Page
-copied m p = outcomeTold (ev.copyingEnded m) p
+abbrev pub finish : Three → Machine → Page → Machine × Page
+finish (three.Refused reason) m page = (m, refused reason page)
+finish (three.Values t p h) m page = outcomeTold (ev.finished m (count t) (count p) (count h)) page
 
-unfoldable pub wake : Machine → Page → Machine × Page
-wake m p = outcomeTold (ev.woken m) p
-
-abbrev pub writeRead : Two → Machine → Page → Machine × Page
-writeRead (two.Refused reason) m p = (m, refused reason p)
-writeRead (two.Values register value) m p = outcomeTold (ev.written m (octet register) (octet value)) p
-
-unfoldable pub write : List ℕ → Machine → Page → Machine × Page
-write line m p = writeRead (both (words.pair 1 line) (words.pair 2 line)) m p
-
-abbrev pub finishRead : Three → Machine → Page → Machine × Page
-finishRead (three.Refused reason) m page = (m, refused reason page)
-finishRead (three.Values t p h) m page = outcomeTold (ev.finished m (count t) (count p) (count h)) page
-
-unfoldable pub finish : List ℕ → Machine → Page → Machine × Page
-finish line m p = finishRead (words.decimals 1 2 3 line) m p
-
-abbrev pub openRead : Number → Machine → Page → Machine × Page
-openRead (number.Refused reason) m p = (m, refused reason p)
-openRead (number.Value n) m p = outcomeTold (ev.opened m (octet n)) p
-
-unfoldable pub opening : List ℕ → Machine → Page → Machine × Page
-opening line m p = openRead (words.pair 1 line) m p
+abbrev pub opening : Number → Machine → Page → Machine × Page
+opening (number.Refused reason) m p = (m, refused reason p)
+opening (number.Value n) m p = outcomeTold (ev.opened m (octet n)) p
 
 -- ---- byte: `0 XX`
 
@@ -116,12 +97,9 @@ closeInto m lent p = closedTold (ev.closed m lent) p
 unfoldable pub closeWith : ℕ → Machine → Page → Machine × Page
 closeWith length m p = closeInto m (lentOf length) p
 
-abbrev pub closeRead : Number → Machine → Page → Machine × Page
-closeRead (number.Refused reason) m p = (m, refused reason p)
-closeRead (number.Value n) m p = closeWith n m p
-
-unfoldable pub close : List ℕ → Machine → Page → Machine × Page
-close line m p = closeRead (words.length 1 line) m p
+abbrev pub close : Number → Machine → Page → Machine × Page
+close (number.Refused reason) m p = (m, refused reason p)
+close (number.Value n) m p = closeWith n m p
 
 -- ---- ledger
 
@@ -137,3 +115,18 @@ standingTold t p =
 
 unfoldable pub ledger : Machine → Page → Machine × Page
 ledger m p = (m, standingTold (counts.tallied m) (countsTold (counts.tallied m) p))
+
+-- ---- each of them
+
+abbrev pub answered : Happening → List ℕ → Machine → Page → Machine × Page
+answered the.Fresh line m p = fresh p
+answered the.FreshAfter line m p = freshAfter (words.decimal 1 line) m p
+answered the.Power line m p = outcomeTold (ev.powered m) p
+answered the.Copied line m p = outcomeTold (ev.copyingEnded m) p
+answered the.Wake line m p = outcomeTold (ev.woken m) p
+answered the.Write line m p = write (both (words.pair 1 line) (words.pair 2 line)) m p
+answered the.Finish line m p = finish (words.decimals 1 2 3 line) m p
+answered the.Open line m p = opening (words.pair 1 line) m p
+answered the.Byte line m p = byte m p
+answered the.Close line m p = close (words.length 1 line) m p
+answered the.Ledger line m p = ledger m p

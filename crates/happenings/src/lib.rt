@@ -1,16 +1,15 @@
 // The machine's commands: fresh, the eight events, ledger.
 ghost use mathlib.Core.Path.{_≡_};
 ghost use Rattle.happenings.specs.Happenings as happenings;
-use commands::Three;
-use commands::Two;
+use arguments::Three;
+use arguments::Two;
+use commands::Happening;
 use figures::Number;
-use machine::Closing;
-use machine::Codes;
-use machine::Given;
 use machine::Machine;
 use machine::Outcome;
-use machine::Tally;
-use phrases::words;
+
+mod reads; // byte, close
+mod counts; // ledger
 
 // The machine after a command, and the page's next place.
 pub struct Answered {
@@ -18,15 +17,39 @@ pub struct Answered {
     pub at: usize,
 }
 
+// Answers a happening's line: gives the machine afterwards, and writes the number and what goes with it, or the reason that refuses.
+pub fn answer(happening: Happening, line: &[u8], m: Machine, out: &mut [u8], at: usize) -> Answered
+    ensures { λ r. ⌜ (r .machine, (now (out .exit), r .at)) ≡ happenings.answered happening (now (line .entry)) m (now (out .entry), at) ⌝ }
+{
+    match happening {
+        Happening::Fresh => fresh(out, at),
+        Happening::FreshAfter => fresh_after(arguments::decimal(line, 1), m, out, at),
+        Happening::Power => tell_outcome(start::power(m), out, at),
+        Happening::Copied => tell_outcome(start::copied(m), out, at),
+        Happening::Wake => tell_outcome(finishing::wake(m), out, at),
+        Happening::Write => write(
+            arguments::both(arguments::pair(line, 1), arguments::pair(line, 2)),
+            m,
+            out,
+            at,
+        ),
+        Happening::Finish => finish(arguments::decimals(line, 1, 2, 3), m, out, at),
+        Happening::Open => open(arguments::pair(line, 1), m, out, at),
+        Happening::Byte => reads::byte(m, out, at),
+        Happening::Close => reads::close(arguments::length(line, 1), m, out, at),
+        Happening::Ledger => counts::ledger(m, out, at),
+    }
+}
+
 // The machine stays as it is.
-pub fn stay(m: Machine, at: usize) -> Answered
+fn stay(m: Machine, at: usize) -> Answered
     ensures { λ r. ⌜ r ≡ happenings.stayed m at ⌝ }
 {
     Answered { machine: m, at }
 }
 
 // fresh
-pub fn fresh(out: &mut [u8], at: usize) -> Answered
+fn fresh(out: &mut [u8], at: usize) -> Answered
     ensures { λ r. ⌜ (r .machine, (now (out .exit), r .at)) ≡ happenings.fresh (now (out .entry), at) ⌝ }
 {
     Answered {
@@ -35,66 +58,26 @@ pub fn fresh(out: &mut [u8], at: usize) -> Answered
     }
 }
 
-// fresh N
-pub fn fresh_after(line: &[u8], m: Machine, out: &mut [u8], at: usize) -> Answered
-    ensures { λ r. ⌜ (r .machine, (now (out .exit), r .at)) ≡ happenings.freshAfter (now (line .entry)) m (now (out .entry), at) ⌝ }
-{
-    fresh_counted(words::decimal(line, 1), m, out, at)
-}
-
-// The same with the number that was read.
-fn fresh_counted(number: Number, m: Machine, out: &mut [u8], at: usize) -> Answered
-    ensures { λ r. ⌜ (r .machine, (now (out .exit), r .at)) ≡ happenings.freshCounted number m (now (out .entry), at) ⌝ }
+// fresh N, with the number that was read.
+fn fresh_after(number: Number, m: Machine, out: &mut [u8], at: usize) -> Answered
+    ensures { λ r. ⌜ (r .machine, (now (out .exit), r .at)) ≡ happenings.freshAfter number m (now (out .entry), at) ⌝ }
 {
     match number {
         Number::Value(n) => Answered {
-            machine: start::fresh_after(words::count(n)),
+            machine: start::fresh_after(arguments::count(n)),
             at: phrases::number(paper::DONE, out, at),
         },
         Number::Refused(reason) => stay(m, phrases::refuse(reason, out, at)),
     }
 }
 
-// power
-pub fn power(m: Machine, out: &mut [u8], at: usize) -> Answered
-    ensures { λ r. ⌜ (r .machine, (now (out .exit), r .at)) ≡ happenings.power m (now (out .entry), at) ⌝ }
-{
-    tell_outcome(start::power(m), out, at)
-}
-
-// copied
-pub fn copied(m: Machine, out: &mut [u8], at: usize) -> Answered
-    ensures { λ r. ⌜ (r .machine, (now (out .exit), r .at)) ≡ happenings.copied m (now (out .entry), at) ⌝ }
-{
-    tell_outcome(start::copied(m), out, at)
-}
-
-// wake
-pub fn wake(m: Machine, out: &mut [u8], at: usize) -> Answered
-    ensures { λ r. ⌜ (r .machine, (now (out .exit), r .at)) ≡ happenings.wake m (now (out .entry), at) ⌝ }
-{
-    tell_outcome(finishing::wake(m), out, at)
-}
-
-// write REG VALUE
-pub fn write(line: &[u8], m: Machine, out: &mut [u8], at: usize) -> Answered
-    ensures { λ r. ⌜ (r .machine, (now (out .exit), r .at)) ≡ happenings.write (now (line .entry)) m (now (out .entry), at) ⌝ }
-{
-    write_read(
-        commands::both(words::pair(line, 1), words::pair(line, 2)),
-        m,
-        out,
-        at,
-    )
-}
-
-// The same with the register and the value that were read.
-fn write_read(numbers: Two, m: Machine, out: &mut [u8], at: usize) -> Answered
-    ensures { λ r. ⌜ (r .machine, (now (out .exit), r .at)) ≡ happenings.writeRead numbers m (now (out .entry), at) ⌝ }
+// write REG VALUE, with the register and the value that were read.
+fn write(numbers: Two, m: Machine, out: &mut [u8], at: usize) -> Answered
+    ensures { λ r. ⌜ (r .machine, (now (out .exit), r .at)) ≡ happenings.write numbers m (now (out .entry), at) ⌝ }
 {
     match numbers {
         Two::Values(register, value) => tell_outcome(
-            writing::write(m, words::octet(register), words::octet(value)),
+            writing::write(m, arguments::octet(register), arguments::octet(value)),
             out,
             at,
         ),
@@ -102,20 +85,18 @@ fn write_read(numbers: Two, m: Machine, out: &mut [u8], at: usize) -> Answered
     }
 }
 
-// finish T P H
-pub fn finish(line: &[u8], m: Machine, out: &mut [u8], at: usize) -> Answered
-    ensures { λ r. ⌜ (r .machine, (now (out .exit), r .at)) ≡ happenings.finish (now (line .entry)) m (now (out .entry), at) ⌝ }
-{
-    finish_read(words::decimals(line, 1, 2, 3), m, out, at)
-}
-
-// The same with the counts that were read.
-fn finish_read(numbers: Three, m: Machine, out: &mut [u8], at: usize) -> Answered
-    ensures { λ r. ⌜ (r .machine, (now (out .exit), r .at)) ≡ happenings.finishRead numbers m (now (out .entry), at) ⌝ }
+// finish T P H, with the counts that were read.
+fn finish(numbers: Three, m: Machine, out: &mut [u8], at: usize) -> Answered
+    ensures { λ r. ⌜ (r .machine, (now (out .exit), r .at)) ≡ happenings.finish numbers m (now (out .entry), at) ⌝ }
 {
     match numbers {
         Three::Values(t, p, h) => tell_outcome(
-            finishing::finish(m, words::count(t), words::count(p), words::count(h)),
+            finishing::finish(
+                m,
+                arguments::count(t),
+                arguments::count(p),
+                arguments::count(h),
+            ),
             out,
             at,
         ),
@@ -123,19 +104,12 @@ fn finish_read(numbers: Three, m: Machine, out: &mut [u8], at: usize) -> Answere
     }
 }
 
-// open ADDR
-pub fn open(line: &[u8], m: Machine, out: &mut [u8], at: usize) -> Answered
-    ensures { λ r. ⌜ (r .machine, (now (out .exit), r .at)) ≡ happenings.opening (now (line .entry)) m (now (out .entry), at) ⌝ }
-{
-    open_read(words::pair(line, 1), m, out, at)
-}
-
-// The same with the address that was read.
-fn open_read(address: Number, m: Machine, out: &mut [u8], at: usize) -> Answered
-    ensures { λ r. ⌜ (r .machine, (now (out .exit), r .at)) ≡ happenings.openRead address m (now (out .entry), at) ⌝ }
+// open ADDR, with the address that was read.
+fn open(address: Number, m: Machine, out: &mut [u8], at: usize) -> Answered
+    ensures { λ r. ⌜ (r .machine, (now (out .exit), r .at)) ≡ happenings.opening address m (now (out .entry), at) ⌝ }
 {
     match address {
-        Number::Value(n) => tell_outcome(bursts::open(m, words::octet(n)), out, at),
+        Number::Value(n) => tell_outcome(bursts::open(m, arguments::octet(n)), out, at),
         Number::Refused(reason) => stay(m, phrases::refuse(reason, out, at)),
     }
 }
@@ -149,130 +123,4 @@ fn tell_outcome(outcome: Outcome, out: &mut [u8], at: usize) -> Answered
         machine,
         at: phrases::number(outcome.answer, out, at),
     }
-}
-
-// byte
-pub fn byte(m: Machine, out: &mut [u8], at: usize) -> Answered
-    ensures { λ r. ⌜ (r .machine, (now (out .exit), r .at)) ≡ happenings.byte m (now (out .entry), at) ⌝ }
-{
-    tell_given(bursts::byte(m), out, at)
-}
-
-// Writes the number, and where it is done the register's value.
-fn tell_given(given: Given, out: &mut [u8], at: usize) -> Answered
-    ensures { λ r. ⌜ (r .machine, (now (out .exit), r .at)) ≡ happenings.givenTold given (now (out .entry), at) ⌝ }
-{
-    let machine = given.machine;
-    let next = phrases::number(given.answer, out, at);
-    if given.answer == paper::DONE {
-        return Answered {
-            machine,
-            at: phrases::byte(b" ", given.value, out, next),
-        };
-    }
-    Answered { machine, at: next }
-}
-
-// close LEN
-pub fn close(line: &[u8], m: Machine, out: &mut [u8], at: usize) -> Answered
-    ensures { λ r. ⌜ (r .machine, (now (out .exit), r .at)) ≡ happenings.close (now (line .entry)) m (now (out .entry), at) ⌝ }
-{
-    close_read(words::length(line, 1), m, out, at)
-}
-
-// The same with the length that was read.
-fn close_read(length: Number, m: Machine, out: &mut [u8], at: usize) -> Answered
-    ensures { λ r. ⌜ (r .machine, (now (out .exit), r .at)) ≡ happenings.closeRead length m (now (out .entry), at) ⌝ }
-{
-    match length {
-        Number::Value(n) => close_with(n, m, out, at),
-        Number::Refused(reason) => stay(m, phrases::refuse(reason, out, at)),
-    }
-}
-
-// The same with a buffer of so many bytes.
-fn close_with(length: usize, m: Machine, out: &mut [u8], at: usize) -> Answered
-    ensures { λ r. ⌜ (r .machine, (now (out .exit), r .at)) ≡ happenings.closeWith length m (now (out .entry), at) ⌝ }
-{
-    let mut lent = words::filled();
-    let n = words::within(length);
-    close_into(m, &mut lent[..n], out, at)
-}
-
-// The same with a lent buffer.
-fn close_into(m: Machine, lent: &mut [u8], out: &mut [u8], at: usize) -> Answered
-    ensures { λ r. ⌜ (r .machine, (now (out .exit), r .at)) ≡ happenings.closeInto m (now (lent .entry)) (now (out .entry), at) ⌝ }
-{
-    let closing = bursts::close(m, lent);
-    let machine = closing.machine;
-    let next = tell_closing(closing, out, at);
-    Answered {
-        machine,
-        at: phrases::buffer(lent, out, next),
-    }
-}
-
-// Writes the number, and where it is done what the burst showed.
-fn tell_closing(closing: Closing, out: &mut [u8], at: usize) -> usize
-    ensures { λ r. ⌜ (now (out .exit), r) ≡ happenings.closingTold closing (now (out .entry), at) ⌝ }
-{
-    let next = phrases::number(closing.answer, out, at);
-    if closing.answer != paper::DONE {
-        return next;
-    }
-    let a = tell_whole(closing.whole, out, next);
-    let b = phrases::named(b" n=", closing.number as u64, out, a);
-    let codes = closing.codes;
-    let c = tell_codes(codes, out, b);
-    phrases::flag(b" before=", closing.delivered, out, c)
-}
-
-// Writes whether the burst was whole.
-fn tell_whole(whole: bool, out: &mut [u8], at: usize) -> usize
-    ensures { λ r. ⌜ (now (out .exit), r) ≡ happenings.wholeTold whole (now (out .entry), at) ⌝ }
-{
-    if whole {
-        figures::write_text(b" whole", out, at)
-    } else {
-        figures::write_text(b" partial", out, at)
-    }
-}
-
-// Writes three codes.
-fn tell_codes(codes: Codes, out: &mut [u8], at: usize) -> usize
-    ensures { λ r. ⌜ (now (out .exit), r) ≡ happenings.codesTold codes (now (out .entry), at) ⌝ }
-{
-    let a = phrases::named(b" codes=", codes.temperature as u64, out, at);
-    let b = phrases::named(b",", codes.pressure as u64, out, a);
-    phrases::named(b",", codes.humidity as u64, out, b)
-}
-
-// ledger
-pub fn ledger(m: Machine, out: &mut [u8], at: usize) -> Answered
-    ensures { λ r. ⌜ (r .machine, (now (out .exit), r .at)) ≡ happenings.ledger m (now (out .entry), at) ⌝ }
-{
-    let tally = conversions::tally(m);
-    let next = tell_counts(tally, out, at);
-    stay(m, tell_standing(tally, out, next))
-}
-
-// Writes the kept counts.
-fn tell_counts(tally: Tally, out: &mut [u8], at: usize) -> usize
-    ensures { λ r. ⌜ (now (out .exit), r) ≡ happenings.countsTold tally (now (out .entry), at) ⌝ }
-{
-    let ledger = tally.ledger;
-    let a = phrases::named(b"begun=", ledger.begun as u64, out, at);
-    let b = phrases::named(b" delivered=", ledger.delivered as u64, out, a);
-    let c = phrases::named(b" overwritten=", ledger.overwritten as u64, out, b);
-    let d = phrases::named(b" abandoned=", ledger.abandoned as u64, out, c);
-    phrases::named(b" standing=", ledger.standing as u64, out, d)
-}
-
-// Writes what stands, by name.
-fn tell_standing(tally: Tally, out: &mut [u8], at: usize) -> usize
-    ensures { λ r. ⌜ (now (out .exit), r) ≡ happenings.standingTold tally (now (out .entry), at) ⌝ }
-{
-    let a = phrases::flag(b" running=", tally.running, out, at);
-    let b = phrases::flag(b" waiting=", tally.waiting, out, a);
-    phrases::flag(b" shown=", tally.unread, out, b)
 }

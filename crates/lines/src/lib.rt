@@ -5,8 +5,6 @@ use commands::Asked;
 use commands::Command;
 use happenings::Answered;
 use machine::Machine;
-use readings::chip;
-use readings::times;
 
 // Answers a line: writes the answer and a newline on the page from a place on, and gives the machine afterwards.
 // An empty line is passed over.
@@ -46,27 +44,18 @@ fn run(command: Command, line: &[u8], m: Machine, out: &mut [u8], at: usize) -> 
     ensures { λ r. ⌜ (r .machine, (now (out .exit), r .at)) ≡ answers.ran command (now (line .entry)) m (now (out .entry), at) ⌝ }
 {
     match command {
-        Command::Cal => happenings::stay(m, chip::cal(line, out, at)),
-        Command::Comp => happenings::stay(m, chip::comp(line, out, at)),
-        Command::WaitMaximum => happenings::stay(m, times::wait_maximum(line, out, at)),
-        Command::WaitTypical => happenings::stay(m, times::wait_typical(line, out, at)),
-        Command::Poll => happenings::stay(m, times::poll(line, out, at)),
-        Command::I2cWrite => happenings::stay(m, messages::i2c_write(line, out, at)),
-        Command::I2cDecode => happenings::stay(m, messages::i2c_decode(line, out, at)),
-        Command::I2cRead => happenings::stay(m, messages::i2c_read(line, out, at)),
-        Command::SpiWrite => happenings::stay(m, messages::spi_write(line, out, at)),
-        Command::SpiDecode => happenings::stay(m, messages::spi_decode(line, out, at)),
-        Command::SpiRead => happenings::stay(m, messages::spi_read(line, out, at)),
-        Command::Fresh => happenings::fresh(out, at),
-        Command::FreshAfter => happenings::fresh_after(line, m, out, at),
-        Command::Power => happenings::power(m, out, at),
-        Command::Copied => happenings::copied(m, out, at),
-        Command::Wake => happenings::wake(m, out, at),
-        Command::Write => happenings::write(line, m, out, at),
-        Command::Finish => happenings::finish(line, m, out, at),
-        Command::Open => happenings::open(line, m, out, at),
-        Command::Byte => happenings::byte(m, out, at),
-        Command::Close => happenings::close(line, m, out, at),
-        Command::Ledger => happenings::ledger(m, out, at),
+        Command::Reading(reading) => Answered {
+            machine: m,
+            at: readings::answer(reading, line, out, at),
+        },
+        Command::Time(time) => Answered {
+            machine: m,
+            at: times::answer(time, line, out, at),
+        },
+        Command::Message(message) => Answered {
+            machine: m,
+            at: messages::answer(message, line, out, at),
+        },
+        Command::Happening(happening) => happenings::answer(happening, line, m, out, at),
     }
 }

@@ -2,22 +2,25 @@
 use Prim.Native.Nat.{ℕ}
 use mathlib.Core.List.{List, [], _∷_}
 use lib.ListN.{take}
-use Rattle.figures.specs.Page.{Page, letters, _▹_}
-use Rattle.figures.specs.Digits.{decimal, pair}
-use Rattle.commands.specs.declared.Two.{Two}
-use Rattle.commands.specs.declared.Two.the-variants as two
-use Rattle.commands.specs.declared.Three.{Three}
-use Rattle.commands.specs.declared.Three.the-variants as three
-use Rattle.commands.specs.Arguments.{both, allThree}
+use Rattle.pages.specs.Page.{Page, letters, _▹_}
+use Rattle.pages.specs.Digits.{decimal, pair}
+use Rattle.commands.specs.declared.Message.{Message}
+use Rattle.commands.specs.declared.Message.the-variants as the
+use Rattle.arguments.specs.declared.Two.{Two}
+use Rattle.arguments.specs.declared.Two.the-variants as two
+use Rattle.arguments.specs.declared.Three.{Three}
+use Rattle.arguments.specs.declared.Three.the-variants as three
+use Rattle.arguments.specs.Arguments.{both, allThree}
 use Rattle.paper.specs.Answers.{Answer}
 use Rattle.bus.specs.declared.Bus.{Bus}
+use Rattle.bus.specs.declared.Bus.the-variants.{I2c, Spi}
 use Rattle.bus.specs.declared.Device.{Device}
 use Rattle.bus.specs.declared.Device.the-variants.{At, Selected}
 use Rattle.bus.specs.Writing.{encodedWrite, decodedWrite}
 use Rattle.bus.specs.Reading.{encodedRead}
 use Rattle.phrases.specs.Phrases.{refused, buffered}
-use Rattle.phrases.specs.Words as words
-use Rattle.phrases.specs.Words.{bytesAt, octet, lentOf}
+use Rattle.arguments.specs.Words as words
+use Rattle.arguments.specs.Words.{bytesAt, octet, lentOf}
 
 -- the number of bytes, after the address where there is one
 abbrev pub addressAndBytes : List ℕ → Page → Page
@@ -82,3 +85,13 @@ i2cRead line p = readAt (allThree (words.pair 2 line) (words.pair 3 line) (words
 
 unfoldable pub spiRead : List ℕ → Page → Page
 spiRead line p = readSelected (both (words.pair 2 line) (words.length 3 line)) p
+
+-- ---- each of them
+
+abbrev pub answered : Message → List ℕ → Page → Page
+answered the.I2cWrite line p = i2cWrite line p
+answered the.I2cDecode line p = decode I2c line p
+answered the.I2cRead line p = i2cRead line p
+answered the.SpiWrite line p = spiWrite line p
+answered the.SpiDecode line p = decode Spi line p
+answered the.SpiRead line p = spiRead line p

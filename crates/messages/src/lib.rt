@@ -5,73 +5,92 @@ ghost use Rattle.bus.specs.Writing.{encodedAnswer, decodedAnswer};
 ghost use Rattle.bus.specs.Writing as writing;
 ghost use Rattle.bus.specs.Reading as reading;
 ghost use Rattle.messages.specs.Messages as messages;
+use arguments::Three;
+use arguments::Two;
 use bus::Bus;
 use bus::Decoded;
 use bus::Device;
 use bus::Encoded;
-use commands::Three;
-use commands::Two;
+use commands::Message;
 use figures::front;
-use phrases::words;
+
+// Answers a message's line: writes the number, what goes with it and the whole lent buffer, or the reason that refuses.
+pub fn answer(message: Message, line: &[u8], out: &mut [u8], at: usize) -> usize
+    ensures { λ r. ⌜ (now (out .exit), r) ≡ messages.answered message (now (line .entry)) (now (out .entry), at) ⌝ }
+{
+    match message {
+        Message::I2cWrite => i2c_write(line, out, at),
+        Message::I2cDecode => i2c_decode(line, out, at),
+        Message::I2cRead => i2c_read(line, out, at),
+        Message::SpiWrite => spi_write(line, out, at),
+        Message::SpiDecode => spi_decode(line, out, at),
+        Message::SpiRead => spi_read(line, out, at),
+    }
+}
 
 // i2c write ADDR PAIRS LEN
-pub fn i2c_write(line: &[u8], out: &mut [u8], at: usize) -> usize
+fn i2c_write(line: &[u8], out: &mut [u8], at: usize) -> usize
     ensures { λ r. ⌜ (now (out .exit), r) ≡ messages.i2cWrite (now (line .entry)) (now (out .entry), at) ⌝ }
 {
-    let mut pairs = words::room();
-    let address = words::pair(line, 2);
-    let count = words::bytes(line, 3, &mut pairs);
-    let length = words::length(line, 4);
-    write_at(commands::all_three(address, count, length), &pairs, out, at)
+    let mut pairs = arguments::room();
+    let address = arguments::pair(line, 2);
+    let count = arguments::bytes(line, 3, &mut pairs);
+    let length = arguments::length(line, 4);
+    write_at(
+        arguments::all_three(address, count, length),
+        &pairs,
+        out,
+        at,
+    )
 }
 
 // i2c decode BYTES LEN
-pub fn i2c_decode(line: &[u8], out: &mut [u8], at: usize) -> usize
+fn i2c_decode(line: &[u8], out: &mut [u8], at: usize) -> usize
     ensures { λ r. ⌜ (now (out .exit), r) ≡ messages.decode I2c (now (line .entry)) (now (out .entry), at) ⌝ }
 {
-    let mut bytes = words::room();
-    let count = words::bytes(line, 2, &mut bytes);
-    let length = words::length(line, 3);
-    decode(Bus::I2c, commands::both(count, length), &bytes, out, at)
+    let mut bytes = arguments::room();
+    let count = arguments::bytes(line, 2, &mut bytes);
+    let length = arguments::length(line, 3);
+    decode(Bus::I2c, arguments::both(count, length), &bytes, out, at)
 }
 
 // i2c read ADDR REG LEN
-pub fn i2c_read(line: &[u8], out: &mut [u8], at: usize) -> usize
+fn i2c_read(line: &[u8], out: &mut [u8], at: usize) -> usize
     ensures { λ r. ⌜ (now (out .exit), r) ≡ messages.i2cRead (now (line .entry)) (now (out .entry), at) ⌝ }
 {
-    let address = words::pair(line, 2);
-    let register = words::pair(line, 3);
-    let length = words::length(line, 4);
-    read_at(commands::all_three(address, register, length), out, at)
+    let address = arguments::pair(line, 2);
+    let register = arguments::pair(line, 3);
+    let length = arguments::length(line, 4);
+    read_at(arguments::all_three(address, register, length), out, at)
 }
 
 // spi write PAIRS LEN
-pub fn spi_write(line: &[u8], out: &mut [u8], at: usize) -> usize
+fn spi_write(line: &[u8], out: &mut [u8], at: usize) -> usize
     ensures { λ r. ⌜ (now (out .exit), r) ≡ messages.spiWrite (now (line .entry)) (now (out .entry), at) ⌝ }
 {
-    let mut pairs = words::room();
-    let count = words::bytes(line, 2, &mut pairs);
-    let length = words::length(line, 3);
-    write_selected(commands::both(count, length), &pairs, out, at)
+    let mut pairs = arguments::room();
+    let count = arguments::bytes(line, 2, &mut pairs);
+    let length = arguments::length(line, 3);
+    write_selected(arguments::both(count, length), &pairs, out, at)
 }
 
 // spi decode BYTES LEN
-pub fn spi_decode(line: &[u8], out: &mut [u8], at: usize) -> usize
+fn spi_decode(line: &[u8], out: &mut [u8], at: usize) -> usize
     ensures { λ r. ⌜ (now (out .exit), r) ≡ messages.decode Spi (now (line .entry)) (now (out .entry), at) ⌝ }
 {
-    let mut bytes = words::room();
-    let count = words::bytes(line, 2, &mut bytes);
-    let length = words::length(line, 3);
-    decode(Bus::Spi, commands::both(count, length), &bytes, out, at)
+    let mut bytes = arguments::room();
+    let count = arguments::bytes(line, 2, &mut bytes);
+    let length = arguments::length(line, 3);
+    decode(Bus::Spi, arguments::both(count, length), &bytes, out, at)
 }
 
 // spi read REG LEN
-pub fn spi_read(line: &[u8], out: &mut [u8], at: usize) -> usize
+fn spi_read(line: &[u8], out: &mut [u8], at: usize) -> usize
     ensures { λ r. ⌜ (now (out .exit), r) ≡ messages.spiRead (now (line .entry)) (now (out .entry), at) ⌝ }
 {
-    let register = words::pair(line, 2);
-    let length = words::length(line, 3);
-    read_selected(commands::both(register, length), out, at)
+    let register = arguments::pair(line, 2);
+    let length = arguments::length(line, 3);
+    read_selected(arguments::both(register, length), out, at)
 }
 
 // Answers a write to the device at an address.
@@ -80,7 +99,7 @@ fn write_at(numbers: Three, pairs: &[u8], out: &mut [u8], at: usize) -> usize
 {
     match numbers {
         Three::Values(address, count, length) => write_with(
-            Device::At(words::octet(address)),
+            Device::At(arguments::octet(address)),
             front(pairs, count),
             length,
             out,
@@ -112,8 +131,8 @@ fn read_at(numbers: Three, out: &mut [u8], at: usize) -> usize
 {
     match numbers {
         Three::Values(address, register, length) => read_with(
-            Device::At(words::octet(address)),
-            words::octet(register),
+            Device::At(arguments::octet(address)),
+            arguments::octet(register),
             length,
             out,
             at,
@@ -129,7 +148,7 @@ fn read_selected(numbers: Two, out: &mut [u8], at: usize) -> usize
     match numbers {
         Two::Values(register, length) => read_with(
             Device::Selected,
-            words::octet(register),
+            arguments::octet(register),
             length,
             out,
             at,
@@ -152,8 +171,8 @@ fn decode(bus: Bus, numbers: Two, bytes: &[u8], out: &mut [u8], at: usize) -> us
 fn write_with(device: Device, pairs: &[u8], length: usize, out: &mut [u8], at: usize) -> usize
     ensures { λ r. ⌜ (now (out .exit), r) ≡ messages.writeWith device (now (pairs .entry)) length (now (out .entry), at) ⌝ }
 {
-    let mut lent = words::filled();
-    let n = words::within(length);
+    let mut lent = arguments::filled();
+    let n = arguments::within(length);
     write_into(device, pairs, &mut lent[..n], out, at)
 }
 
@@ -169,8 +188,8 @@ fn write_into(device: Device, pairs: &[u8], lent: &mut [u8], out: &mut [u8], at:
 fn read_with(device: Device, register: u8, length: usize, out: &mut [u8], at: usize) -> usize
     ensures { λ r. ⌜ (now (out .exit), r) ≡ messages.readWith device register length (now (out .entry), at) ⌝ }
 {
-    let mut lent = words::filled();
-    let n = words::within(length);
+    let mut lent = arguments::filled();
+    let n = arguments::within(length);
     read_into(device, register, &mut lent[..n], out, at)
 }
 
@@ -186,8 +205,8 @@ fn read_into(device: Device, register: u8, lent: &mut [u8], out: &mut [u8], at: 
 fn decode_with(bus: Bus, bytes: &[u8], length: usize, out: &mut [u8], at: usize) -> usize
     ensures { λ r. ⌜ (now (out .exit), r) ≡ messages.decodeWith bus (now (bytes .entry)) length (now (out .entry), at) ⌝ }
 {
-    let mut lent = words::filled();
-    let n = words::within(length);
+    let mut lent = arguments::filled();
+    let n = arguments::within(length);
     decode_into(bus, bytes, &mut lent[..n], out, at)
 }
 

@@ -1,4 +1,2 @@
--- Pieces of an answer, and what stands among the words of a line.
+-- Pieces of an answer.
 pub mod Phrases
-pub mod Words
-pub mod Read

@@ -1,17 +1,15 @@
-// Pieces of an answer on a page, and the numbers and bytes among the words of a line.
+// Pieces of an answer on a page.
 ghost use mathlib.Core.Path.{_≡_};
-ghost use Rattle.figures.specs.Page.{_▹_, letters};
-ghost use Rattle.figures.specs.Digits as spelt;
+ghost use Rattle.pages.specs.Page.{_▹_, letters};
+ghost use Rattle.pages.specs.Digits as spelt;
 ghost use Rattle.phrases.specs.Phrases as phrases;
 use figures::Reason;
-
-pub mod words;
 
 // Writes the newline that ends an answer.
 pub fn end(out: &mut [u8], at: usize) -> usize
     ensures { λ r. ⌜ (now (out .exit), r) ≡ phrases.ended (now (out .entry), at) ⌝ }
 {
-    figures::write_text(b"\n", out, at)
+    pages::write_text(b"\n", out, at)
 }
 
 // Writes why a line is not answered.
@@ -19,11 +17,11 @@ pub fn refuse(reason: Reason, out: &mut [u8], at: usize) -> usize
     ensures { λ r. ⌜ (now (out .exit), r) ≡ phrases.refused reason (now (out .entry), at) ⌝ }
 {
     match reason {
-        Reason::UnknownWord => figures::write_text(b"? unknown word", out, at),
-        Reason::WrongNumberOfWords => figures::write_text(b"? wrong number of words", out, at),
-        Reason::NotANumber => figures::write_text(b"? not a number", out, at),
-        Reason::OddHex => figures::write_text(b"? odd hex", out, at),
-        Reason::TooLong => figures::write_text(b"? too long", out, at),
+        Reason::UnknownWord => pages::write_text(b"? unknown word", out, at),
+        Reason::WrongNumberOfWords => pages::write_text(b"? wrong number of words", out, at),
+        Reason::NotANumber => pages::write_text(b"? not a number", out, at),
+        Reason::OddHex => pages::write_text(b"? odd hex", out, at),
+        Reason::TooLong => pages::write_text(b"? too long", out, at),
     }
 }
 
@@ -31,23 +29,23 @@ pub fn refuse(reason: Reason, out: &mut [u8], at: usize) -> usize
 pub fn number(n: u8, out: &mut [u8], at: usize) -> usize
     ensures { λ r. ⌜ (now (out .exit), r) ≡ (now (out .entry), at) ▹ spelt.decimal n ⌝ }
 {
-    figures::write_decimal(n as u64, out, at)
+    pages::write_decimal(n as u64, out, at)
 }
 
 // Writes a name and its value in decimal.
 pub fn named(name: &[u8], value: u64, out: &mut [u8], at: usize) -> usize
     ensures { λ r. ⌜ (now (out .exit), r) ≡ (now (out .entry), at) ▹ now (name .entry) ▹ spelt.decimal value ⌝ }
 {
-    let next = figures::write_text(name, out, at);
-    figures::write_decimal(value, out, next)
+    let next = pages::write_text(name, out, at);
+    pages::write_decimal(value, out, next)
 }
 
 // Writes a name and its signed value.
 pub fn signed(name: &[u8], value: i32, out: &mut [u8], at: usize) -> usize
     ensures { λ r. ⌜ (now (out .exit), r) ≡ (now (out .entry), at) ▹ now (name .entry) ▹ spelt.signed value ⌝ }
 {
-    let next = figures::write_text(name, out, at);
-    figures::write_signed(value, out, next)
+    let next = pages::write_text(name, out, at);
+    pages::write_signed(value, out, next)
 }
 
 // The same with a value of 16 bits.
@@ -68,11 +66,11 @@ pub fn signed8(name: &[u8], value: i8, out: &mut [u8], at: usize) -> usize
 pub fn flag(name: &[u8], value: bool, out: &mut [u8], at: usize) -> usize
     ensures { λ r. ⌜ (now (out .exit), r) ≡ (now (out .entry), at) ▹ now (name .entry) ▹ phrases.bit value ⌝ }
 {
-    let next = figures::write_text(name, out, at);
+    let next = pages::write_text(name, out, at);
     if value {
-        figures::write_text(b"1", out, next)
+        pages::write_text(b"1", out, next)
     } else {
-        figures::write_text(b"0", out, next)
+        pages::write_text(b"0", out, next)
     }
 }
 
@@ -80,14 +78,14 @@ pub fn flag(name: &[u8], value: bool, out: &mut [u8], at: usize) -> usize
 pub fn byte(name: &[u8], value: u8, out: &mut [u8], at: usize) -> usize
     ensures { λ r. ⌜ (now (out .exit), r) ≡ (now (out .entry), at) ▹ now (name .entry) ▹ spelt.pair value ⌝ }
 {
-    let next = figures::write_text(name, out, at);
-    figures::write_pair(value, out, next)
+    let next = pages::write_text(name, out, at);
+    pages::write_pair(value, out, next)
 }
 
 // Writes what a lent buffer holds.
 pub fn buffer(lent: &[u8], out: &mut [u8], at: usize) -> usize
     ensures { λ r. ⌜ (now (out .exit), r) ≡ phrases.buffered (now (lent .entry)) (now (out .entry), at) ⌝ }
 {
-    let next = figures::write_text(b" buf=", out, at);
-    figures::write_bytes(lent, out, next)
+    let next = pages::write_text(b" buf=", out, at);
+    pages::write_bytes(lent, out, next)
 }

@@ -1,3 +1,2 @@
--- The answers of cal, comp, wait and poll.
-pub mod Chip
-pub mod Times
+-- The answers of cal and comp.
+pub mod Readings

@@ -1,33 +1,32 @@
 // The chip's words and a reading: cal, comp.
 ghost use mathlib.Core.Path.{_≡_};
-ghost use Rattle.readings.specs.Chip as chip;
+ghost use Rattle.readings.specs.Readings as readings;
+use arguments::Three;
+use arguments::Two;
 use calibration::Calibration;
 use calibration::HumidityWords;
 use calibration::PressureWords;
 use calibration::TemperatureWords;
-use commands::Three;
-use commands::Two;
 use compensation::Answer;
 use figures::front;
 use formulas::HumidityAnswer;
 use formulas::PressureAnswer;
 use formulas::TemperatureAnswer;
-use phrases::words;
 
 // cal B1 B2
 pub fn cal(line: &[u8], out: &mut [u8], at: usize) -> usize
-    ensures { λ r. ⌜ (now (out .exit), r) ≡ chip.cal (now (line .entry)) (now (out .entry), at) ⌝ }
+    ensures { λ r. ⌜ (now (out .exit), r) ≡ readings.cal (now (line .entry)) (now (out .entry), at) ⌝ }
 {
-    let mut one = words::room();
-    let mut two = words::room();
-    let first = words::bytes(line, 1, &mut one);
-    let second = words::bytes(line, 2, &mut two);
-    calibrate(commands::both(first, second), &one, &two, out, at)
+    let mut one = arguments::room();
+    let mut two = arguments::room();
+    let first = arguments::bytes(line, 1, &mut one);
+    let second = arguments::bytes(line, 2, &mut two);
+    calibrate(arguments::both(first, second), &one, &two, out, at)
 }
 
 // Answers the words of two blocks that were read.
 fn calibrate(lengths: Two, one: &[u8], two: &[u8], out: &mut [u8], at: usize) -> usize
-    ensures { λ r. ⌜ (now (out .exit), r) ≡ chip.calibrate lengths (now (one .entry)) (now (two .entry)) (now (out .entry), at) ⌝ }
+    ensures { λ r. ⌜ (now (out .exit), r) ≡ readings.calibrate lengths (now (one .entry)) (now (two .entry)) (now (out .entry), at) ⌝ }
 {
     match lengths {
         Two::Values(a, b) => tell_calibration(
@@ -41,7 +40,7 @@ fn calibrate(lengths: Two, one: &[u8], two: &[u8], out: &mut [u8], at: usize) ->
 
 // Writes a chip's words.
 fn tell_calibration(known: Calibration, out: &mut [u8], at: usize) -> usize
-    ensures { λ r. ⌜ (now (out .exit), r) ≡ chip.calibrationTold known (now (out .entry), at) ⌝ }
+    ensures { λ r. ⌜ (now (out .exit), r) ≡ readings.calibrationTold known (now (out .entry), at) ⌝ }
 {
     match known {
         Calibration::Refused(number) => phrases::number(number, out, at),
@@ -60,7 +59,7 @@ fn tell_calibration(known: Calibration, out: &mut [u8], at: usize) -> usize
 
 // Writes T1 to T3.
 fn tell_temperature_words(w: TemperatureWords, out: &mut [u8], at: usize) -> usize
-    ensures { λ r. ⌜ (now (out .exit), r) ≡ chip.temperatureWordsTold w (now (out .entry), at) ⌝ }
+    ensures { λ r. ⌜ (now (out .exit), r) ≡ readings.temperatureWordsTold w (now (out .entry), at) ⌝ }
 {
     let a = phrases::named(b" T1=", w.t1 as u64, out, at);
     let b = phrases::signed16(b" T2=", w.t2, out, a);
@@ -69,7 +68,7 @@ fn tell_temperature_words(w: TemperatureWords, out: &mut [u8], at: usize) -> usi
 
 // Writes P1 to P4.
 fn tell_pressure_words(w: PressureWords, out: &mut [u8], at: usize) -> usize
-    ensures { λ r. ⌜ (now (out .exit), r) ≡ chip.pressureWordsTold w (now (out .entry), at) ⌝ }
+    ensures { λ r. ⌜ (now (out .exit), r) ≡ readings.pressureWordsTold w (now (out .entry), at) ⌝ }
 {
     let a = phrases::named(b" P1=", w.p1 as u64, out, at);
     let b = phrases::signed16(b" P2=", w.p2, out, a);
@@ -79,7 +78,7 @@ fn tell_pressure_words(w: PressureWords, out: &mut [u8], at: usize) -> usize
 
 // Writes P5 to P9.
 fn tell_more_pressure_words(w: PressureWords, out: &mut [u8], at: usize) -> usize
-    ensures { λ r. ⌜ (now (out .exit), r) ≡ chip.morePressureWordsTold w (now (out .entry), at) ⌝ }
+    ensures { λ r. ⌜ (now (out .exit), r) ≡ readings.morePressureWordsTold w (now (out .entry), at) ⌝ }
 {
     let a = phrases::signed16(b" P5=", w.p5, out, at);
     let b = phrases::signed16(b" P6=", w.p6, out, a);
@@ -90,7 +89,7 @@ fn tell_more_pressure_words(w: PressureWords, out: &mut [u8], at: usize) -> usiz
 
 // Writes H1 to H6.
 fn tell_humidity_words(w: HumidityWords, out: &mut [u8], at: usize) -> usize
-    ensures { λ r. ⌜ (now (out .exit), r) ≡ chip.humidityWordsTold w (now (out .entry), at) ⌝ }
+    ensures { λ r. ⌜ (now (out .exit), r) ≡ readings.humidityWordsTold w (now (out .entry), at) ⌝ }
 {
     let a = phrases::named(b" H1=", w.h1 as u64, out, at);
     let b = phrases::signed16(b" H2=", w.h2, out, a);
@@ -102,17 +101,17 @@ fn tell_humidity_words(w: HumidityWords, out: &mut [u8], at: usize) -> usize
 
 // comp B1 B2 D t p h
 pub fn comp(line: &[u8], out: &mut [u8], at: usize) -> usize
-    ensures { λ r. ⌜ (now (out .exit), r) ≡ chip.comp (now (line .entry)) (now (out .entry), at) ⌝ }
+    ensures { λ r. ⌜ (now (out .exit), r) ≡ readings.comp (now (line .entry)) (now (out .entry), at) ⌝ }
 {
-    let mut one = words::room();
-    let mut two = words::room();
-    let mut data = words::room();
-    let first = words::bytes(line, 1, &mut one);
-    let second = words::bytes(line, 2, &mut two);
-    let third = words::bytes(line, 3, &mut data);
+    let mut one = arguments::room();
+    let mut two = arguments::room();
+    let mut data = arguments::room();
+    let first = arguments::bytes(line, 1, &mut one);
+    let second = arguments::bytes(line, 2, &mut two);
+    let third = arguments::bytes(line, 3, &mut data);
     compensate(
-        commands::all_three(first, second, third),
-        words::decimals(line, 4, 5, 6),
+        arguments::all_three(first, second, third),
+        arguments::decimals(line, 4, 5, 6),
         &one,
         &two,
         &data,
@@ -131,7 +130,7 @@ fn compensate(
     out: &mut [u8],
     at: usize,
 ) -> usize
-    ensures { λ r. ⌜ (now (out .exit), r) ≡ chip.compensate lengths codes (now (one .entry)) (now (two .entry)) (now («data» .entry)) (now (out .entry), at) ⌝ }
+    ensures { λ r. ⌜ (now (out .exit), r) ≡ readings.compensate lengths codes (now (one .entry)) (now (two .entry)) (now («data» .entry)) (now (out .entry), at) ⌝ }
 {
     match lengths {
         Three::Values(a, b, c) => compensate_coded(
@@ -155,7 +154,7 @@ fn compensate_coded(
     out: &mut [u8],
     at: usize,
 ) -> usize
-    ensures { λ r. ⌜ (now (out .exit), r) ≡ chip.compensateCoded codes (now (one .entry)) (now (two .entry)) (now («data» .entry)) (now (out .entry), at) ⌝ }
+    ensures { λ r. ⌜ (now (out .exit), r) ≡ readings.compensateCoded codes (now (one .entry)) (now (two .entry)) (now («data» .entry)) (now (out .entry), at) ⌝ }
 {
     match codes {
         Three::Values(t, p, h) => tell_reading(
@@ -163,9 +162,9 @@ fn compensate_coded(
                 one,
                 two,
                 data,
-                words::code(t),
-                words::code(p),
-                words::code(h),
+                arguments::code(t),
+                arguments::code(p),
+                arguments::code(h),
             ),
             out,
             at,
@@ -176,7 +175,7 @@ fn compensate_coded(
 
 // Writes a reading, channel by channel.
 fn tell_reading(answer: Answer, out: &mut [u8], at: usize) -> usize
-    ensures { λ r. ⌜ (now (out .exit), r) ≡ chip.readingTold answer (now (out .entry), at) ⌝ }
+    ensures { λ r. ⌜ (now (out .exit), r) ≡ readings.readingTold answer (now (out .entry), at) ⌝ }
 {
     match answer {
         Answer::Refused(number) => phrases::number(number, out, at),
@@ -194,7 +193,7 @@ fn tell_reading(answer: Answer, out: &mut [u8], at: usize) -> usize
 
 // Writes a temperature with its fine temperature, or the number in their place.
 fn tell_temperature(channel: TemperatureAnswer, out: &mut [u8], at: usize) -> usize
-    ensures { λ r. ⌜ (now (out .exit), r) ≡ chip.temperatureTold channel (now (out .entry), at) ⌝ }
+    ensures { λ r. ⌜ (now (out .exit), r) ≡ readings.temperatureTold channel (now (out .entry), at) ⌝ }
 {
     match channel {
         TemperatureAnswer::Known { value, fine } => {
@@ -207,7 +206,7 @@ fn tell_temperature(channel: TemperatureAnswer, out: &mut [u8], at: usize) -> us
 
 // Writes a pressure, or the number in its place.
 fn tell_pressure(channel: PressureAnswer, out: &mut [u8], at: usize) -> usize
-    ensures { λ r. ⌜ (now (out .exit), r) ≡ chip.pressureTold channel (now (out .entry), at) ⌝ }
+    ensures { λ r. ⌜ (now (out .exit), r) ≡ readings.pressureTold channel (now (out .entry), at) ⌝ }
 {
     match channel {
         PressureAnswer::Known(value) => phrases::named(b" p=", value as u64, out, at),
@@ -217,7 +216,7 @@ fn tell_pressure(channel: PressureAnswer, out: &mut [u8], at: usize) -> usize
 
 // Writes a humidity, or the number in its place.
 fn tell_humidity(channel: HumidityAnswer, out: &mut [u8], at: usize) -> usize
-    ensures { λ r. ⌜ (now (out .exit), r) ≡ chip.humidityTold channel (now (out .entry), at) ⌝ }
+    ensures { λ r. ⌜ (now (out .exit), r) ≡ readings.humidityTold channel (now (out .entry), at) ⌝ }
 {
     match channel {
         HumidityAnswer::Known(value) => phrases::named(b" h=", value as u64, out, at),

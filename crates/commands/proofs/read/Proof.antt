@@ -15,7 +15,7 @@ returns-2 c = search cases
 
 returns-3 : tie.Need-returns-3
 unfolding asked
-returns-3 c = rw (c .counted .ensures, c .before .count .ensures, c .before .before .command .ensures) (search cases)
+returns-3 c = rw (c .counted .ensures, c .before .command .ensures, c .before .before .count .ensures) (search cases)
 
 pub read-spec : {M : Type 1} → statement M
 read-spec =

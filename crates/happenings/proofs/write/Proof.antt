@@ -1,14 +1,27 @@
--- The register and the value that were read.
-use Rattle.happenings.specs.Happenings.{write}
+-- The cases of the definition.
 use borrow.Author.Needs.{needs}
 use Rattle.happenings.proofs.write.Statement.{statement}
 use Rattle.happenings.proofs.write.Tie as tie
 
 returns : tie.Need-returns
-unfolding write
-returns c = rw (c .before .before .write-read .ensures, c .before .before .before .before .both .ensures, c .before .before .before .before .before .pair2 .ensures, c .before .before .before .before .before .before .pair .ensures)
+returns c = rw (c .before .before .before .before .before .before .before .before .numbers .given .1, c .before .before .tell-outcome .ensures, c .before .before .before .before .write .ensures, c .before .before .before .before .before .octet2 .ensures, c .before .before .before .before .before .before .octet .ensures)
+
+returns-2 : tie.Need-returns-2
+returns-2 c = rw (c .before .before .before .before .before .before .numbers2 .given .1, c .stay .ensures, c .before .before .before .refuse .ensures)
 
 pub write-spec : {M : Type 1} → statement M
 write-spec =
     tie.close
-    (tie.spec (λ c κs. tt) (λ c κs. tt) (λ c κs. tt) (λ c κs. tt) (λ c. search needs) returns)
+    (tie.spec
+    (λ c. search needs)
+    (λ c κs. tt)
+    (λ c κs. tt)
+    (λ c κs. tt)
+    (λ c κs. tt)
+    (λ c. search needs)
+    (λ c κs. tt)
+    (λ c κs. tt)
+    (λ c. search needs)
+    returns
+    (λ c. search needs)
+    returns-2)

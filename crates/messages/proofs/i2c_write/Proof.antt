@@ -1,6 +1,6 @@
 -- What was read.
 use Rattle.messages.specs.Messages.{i2cWrite}
-use Rattle.phrases.specs.Read.{read}
+use Rattle.arguments.specs.Read.{read}
 use borrow.Author.Needs.{needs}
 use Rattle.messages.proofs.i2c_write.Statement.{statement}
 use Rattle.messages.proofs.i2c_write.Tie as tie

@@ -1,6 +1,6 @@
 -- What was read.
 use Rattle.messages.specs.Messages.{decode}
-use Rattle.phrases.specs.Read.{read}
+use Rattle.arguments.specs.Read.{read}
 use borrow.Author.Needs.{needs}
 use Rattle.messages.proofs.spi_decode.Statement.{statement}
 use Rattle.messages.proofs.spi_decode.Tie as tie

@@ -2,8 +2,8 @@
 use Prim.Native.Nat.{ℕ}
 use mathlib.Core.List.{[], _∷_, _++_}
 use mathlib.Core.Path.{_≡_, refl}
-use Rattle.figures.specs.Page.{Page, letters, _▹_}
-use Rattle.figures.specs.Digits.{decimal}
+use Rattle.pages.specs.Page.{Page, letters, _▹_}
+use Rattle.pages.specs.Digits.{decimal}
 use Rattle.bus.specs.declared.Device.{Device}
 use Rattle.bus.specs.declared.Device.the-variants.{At, Selected}
 use Rattle.bus.specs.Devices.{addresses}

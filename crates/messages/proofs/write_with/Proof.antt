@@ -1,24 +1,10 @@
--- The part of the filled buffer that is of the length asked.
+-- The front of the filled buffer that is of the length asked.
 use Rattle.messages.specs.Messages.{writeWith}
-use Rattle.phrases.specs.Words.{lentOf}
-use Prim.Native.Nat.{_≤_}
-use native.Mathlib.Omega.{arith}
-use mathlib.Core.Path.{sym}
-use lib.ListN.{length}
-use lib.Seq.{length-take-le}
+use Rattle.arguments.specs.Words.{lentOf}
+use Rattle.arguments.specs.Lent.{within-whole, lent-length}
 use borrow.Author.Needs.{needs}
 use Rattle.messages.proofs.write_with.Statement.{statement}
 use Rattle.messages.proofs.write_with.Tie as tie
-
-array-borrow-prefix-lent : tie.Need-array-borrow-prefix-lent
-array-borrow-prefix-lent c = omega (arith, c .within .ensures .1, c .before .filled .ensures .1)
-
-slice-aggregate-write-into : tie.Need-slice-aggregate-write-into
-slice-aggregate-write-into c =
-    let n = c .before .within in
-    let s = c .before .before .filled in
-    let h : n .result ≤ length (s .result) = omega (arith, n .ensures .1, s .ensures .1) in
-    sym (length-take-le (n .result) (s .result) h)
 
 returns : tie.Need-returns
 unfolding writeWith lentOf
@@ -30,8 +16,8 @@ write-with-spec =
     (tie.spec
     (λ c κs. tt)
     (λ c κs. tt)
-    array-borrow-prefix-lent
-    slice-aggregate-write-into
+    (λ c. within-whole _ (c .before .filled .result) (c .within .ensures .1) (c .before .filled .ensures .1))
+    (λ c. lent-length _ (c .before .before .filled .result) (c .before .within .ensures .1) (c .before .before .filled .ensures .1))
     (λ c κs. tt)
     (λ c. search needs)
     returns)

@@ -1,6 +1,6 @@
 -- The two blocks that were read.
-use Rattle.readings.specs.Chip.{cal}
-use Rattle.phrases.specs.Read.{read}
+use Rattle.readings.specs.Readings.{cal}
+use Rattle.arguments.specs.Read.{read}
 use borrow.Author.Needs.{needs}
 use Rattle.readings.proofs.chip.cal.Statement.{statement}
 use Rattle.readings.proofs.chip.cal.Tie as tie

@@ -1,6 +1,6 @@
 -- The blocks, the data and the codes that were read.
-use Rattle.readings.specs.Chip.{comp}
-use Rattle.phrases.specs.Read.{read}
+use Rattle.readings.specs.Readings.{comp}
+use Rattle.arguments.specs.Read.{read}
 use borrow.Author.Needs.{needs}
 use Rattle.readings.proofs.chip.comp.Statement.{statement}
 use Rattle.readings.proofs.chip.comp.Tie as tie

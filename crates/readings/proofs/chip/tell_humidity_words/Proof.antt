@@ -1,6 +1,6 @@
 -- Each word after its name.
 use mathlib.Core.Path.{refl}
-use Rattle.readings.specs.Chip.{humidityWordsTold}
+use Rattle.readings.specs.Readings.{humidityWordsTold}
 use mir.Facts.{toZ-ofZ}
 use mir.Syntax.{w8, w16}
 use mir.Val.{SFits}

@@ -1,6 +1,6 @@
 -- Each word after its name.
 use mathlib.Core.Path.{refl}
-use Rattle.readings.specs.Chip.{morePressureWordsTold}
+use Rattle.readings.specs.Readings.{morePressureWordsTold}
 use mir.Facts.{toZ-ofZ}
 use mir.Syntax.{w16}
 use mir.Val.{SFits}

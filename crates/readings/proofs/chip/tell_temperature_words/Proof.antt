@@ -1,6 +1,6 @@
 -- Each word after its name.
 use mathlib.Core.Path.{refl}
-use Rattle.readings.specs.Chip.{temperatureWordsTold}
+use Rattle.readings.specs.Readings.{temperatureWordsTold}
 use mir.Facts.{toZ-ofZ}
 use mir.Syntax.{w16}
 use mir.Val.{SFits}

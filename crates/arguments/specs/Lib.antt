@@ -1,0 +1,5 @@
+-- The numbers and bytes among the words of a line, and several of them together.
+pub mod Arguments
+pub mod Words
+pub mod Read
+pub mod Lent

@@ -1,0 +1,2 @@
+-- The answers of wait and poll.
+pub mod Times

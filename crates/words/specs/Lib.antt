@@ -1,0 +1,3 @@
+-- The words of a line.
+pub mod Words
+pub mod Examples
