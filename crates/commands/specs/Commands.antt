@@ -1,6 +1,6 @@
 -- Which command a line asks for: by its first word, and its second after `wait`, `i2c` and `spi`; then by the number of its words.
 use Prim.Native.Nat.{ℕ}
-use mathlib.Core.Bool.{Bool, cond}
+use mathlib.Core.Bool.{cond}
 use mathlib.Core.List.{List}
 use lib.Dec.{eqb, ltb}
 use lib.ListN.{length}

@@ -1,6 +1,4 @@
 -- Lines read, by the definitions: each reason, and that the words decide in their order.
-use Prim.Native.Nat.{ℕ}
-use mathlib.Core.List.{List}
 use mathlib.Core.Path.{_≡_, refl}
 use Rattle.pages.specs.Page.{letters}
 use Rattle.figures.specs.declared.Reason.the-variants.{UnknownWord, WrongNumberOfWords}

@@ -1,5 +1,5 @@
 -- Numbers read, by the definitions.
-use mathlib.Core.List.{List, [], _∷_}
+use mathlib.Core.List.{[], _∷_}
 use mathlib.Core.Path.{_≡_, refl}
 use Rattle.figures.specs.declared.Number.the-variants.{Value, Refused}
 use Rattle.figures.specs.declared.Reason.the-variants.{NotANumber, OddHex, TooLong}

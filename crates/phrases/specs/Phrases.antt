@@ -3,7 +3,7 @@ use Prim.Native.Nat.{ℕ}
 use mathlib.Core.Bool.{Bool, true, false}
 use mathlib.Core.List.{List}
 use Rattle.pages.specs.Page.{Page, letters, _▹_}
-use Rattle.pages.specs.Digits.{decimal, shown}
+use Rattle.pages.specs.Digits.{shown}
 use Rattle.figures.specs.declared.Reason.{Reason}
 use Rattle.figures.specs.declared.Reason.the-variants.{UnknownWord, WrongNumberOfWords, NotANumber, OddHex, TooLong}
 

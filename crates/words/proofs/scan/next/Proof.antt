@@ -5,7 +5,7 @@ use mathlib.Core.Path.{_≡_, sym, ap, _∙_}
 use native.Mathlib.Omega.{arith}
 use lib.ListN.{length, drop, drop-of-length-le}
 use lib.Seq.{drop-drop}
-use Rattle.words.specs.Words.{fromSpace, afterSpace, Ended}
+use Rattle.words.specs.Words.{afterSpace, Ended}
 use borrow.Author.Needs.{needs}
 use Rattle.words.proofs.scan.next.Statement.{statement}
 use Rattle.words.proofs.scan.next.Tie as tie
