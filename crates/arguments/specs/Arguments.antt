@@ -5,6 +5,7 @@ use lib.Dec.{ltb}
 use Rattle.figures.specs.declared.Number.{Number}
 use Rattle.figures.specs.declared.Number.the-variants as number
 use Rattle.figures.specs.declared.Reason.the-variants.{TooLong}
+use Rattle.amounts.specs.Amounts.{longestBuffer}
 use Rattle.arguments.specs.declared.Two.{Two}
 use Rattle.arguments.specs.declared.Two.the-variants as two
 use Rattle.arguments.specs.declared.Three.{Three}
@@ -23,10 +24,7 @@ then (two.Values a b) (number.Value c) = three.Values a b c
 abbrev pub allThree : Number → Number → Number → Three
 allThree first second third = then (both first second) third
 
--- a buffer of more than 256 is refused
-abbrev pub longestBuffer : ℕ
-longestBuffer = 256
-
+-- a buffer of more than the longest is refused
 abbrev pub buffer : Number → Number
 buffer (number.Refused reason) = number.Refused reason
 buffer (number.Value n) = cond (ltb longestBuffer n) (number.Refused TooLong) (number.Value n)

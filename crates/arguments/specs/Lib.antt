@@ -2,4 +2,3 @@
 pub mod Arguments
 pub mod Words
 pub mod Read
-pub mod Lent

@@ -3,7 +3,8 @@ use Prim.Native.Nat.{ℕ}
 use mathlib.Core.List.{List}
 use mathlib.Core.Path.{_≡_}
 use Rattle.figures.specs.declared.Number.{Number}
-use Rattle.arguments.specs.Words.{room, bytes, bytesAt}
+use Rattle.amounts.specs.Amounts.{room}
+use Rattle.arguments.specs.Words.{bytes, bytesAt}
 
 pub read : (place : ℕ) (line lent : List ℕ) (n : Number) (s : List ℕ) → lent ≡ room → (n, s) ≡ bytes place line lent → (n, s) ≡ bytesAt place line
 unfolding bytesAt

@@ -1,9 +1,8 @@
 // The numbers and bytes among the words of a line, and several of them together.
 ghost use mathlib.Core.Path.{_≡_};
-ghost use Prim.Native.Nat.{_≤_};
-ghost use lib.ListN.{length as size};
 ghost use Rattle.arguments.specs.Arguments as several;
 ghost use Rattle.arguments.specs.Words as among;
+use amounts::LONGEST_BUFFER;
 use figures::Number;
 use figures::Reason;
 use words::word;
@@ -19,9 +18,6 @@ pub enum Three {
     Values(usize, usize, usize),
     Refused(Reason),
 }
-
-// The longest buffer that a line can ask for.
-pub const LONGEST_BUFFER: usize = 256;
 
 // Two numbers, the first refused deciding.
 pub fn both(first: Number, second: Number) -> Two
@@ -100,50 +96,4 @@ pub fn decimals(line: &[u8], first: usize, second: usize, third: usize) -> Three
         decimal(line, second),
         decimal(line, third),
     )
-}
-
-// Zeros, one for each byte that a line can hold at most: two digits make one.
-pub fn room() -> [u8; 2048]
-    ensures { λ r. ⌜ (r ≡ among.room) × (2048 ≡ size r) ⌝ }
-{
-    [0; 2048]
-}
-
-// A lent buffer of the longest length, filled with AA.
-pub fn filled() -> [u8; 256]
-    ensures { λ r. ⌜ (r ≡ among.filled) × (256 ≡ size r) ⌝ }
-{
-    [0xAA; 256]
-}
-
-// A setting code as a byte: one that a byte does not hold is out of range all the same.
-pub fn code(n: usize) -> u8
-    ensures { λ r. ⌜ r ≡ among.code n ⌝ }
-{
-    if n < 255 { n as u8 } else { 255 }
-}
-
-// A byte that two hex digits gave.
-pub fn octet(n: usize) -> u8
-    ensures { λ r. ⌜ r ≡ among.octet n ⌝ }
-{
-    (n % 256) as u8
-}
-
-// A count, allowance or number of conversions that a decimal gave.
-pub fn count(n: usize) -> u32
-    ensures { λ r. ⌜ r ≡ among.count n ⌝ }
-{
-    (n % 4294967296) as u32
-}
-
-// A buffer's length within the longest.
-pub fn within(n: usize) -> usize
-    ensures { λ r. ⌜ (r ≡ among.within n) × (r ≤ 256) ⌝ }
-{
-    if n < LONGEST_BUFFER {
-        n
-    } else {
-        LONGEST_BUFFER
-    }
 }

@@ -28,7 +28,7 @@ use Rattle.machine.specs.State as state
 use Rattle.happenings.specs.declared.Answered.{Answered}
 use Rattle.phrases.specs.Phrases.{refused, bit, buffered}
 use Rattle.arguments.specs.Words as words
-use Rattle.arguments.specs.Words.{octet, count, lentOf}
+use Rattle.amounts.specs.Amounts.{octet, count, lentOf}
 
 abbrev pub stayed : Machine → ℕ → Answered
 stayed m at = record { machine = m; at = at }

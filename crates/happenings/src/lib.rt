@@ -64,7 +64,7 @@ fn fresh_after(number: Number, m: Machine, out: &mut [u8], at: usize) -> Answere
 {
     match number {
         Number::Value(n) => Answered {
-            machine: start::fresh_after(arguments::count(n)),
+            machine: start::fresh_after(amounts::count(n)),
             at: phrases::number(paper::DONE, out, at),
         },
         Number::Refused(reason) => stay(m, phrases::refuse(reason, out, at)),
@@ -77,7 +77,7 @@ fn write(numbers: Two, m: Machine, out: &mut [u8], at: usize) -> Answered
 {
     match numbers {
         Two::Values(register, value) => tell_outcome(
-            writing::write(m, arguments::octet(register), arguments::octet(value)),
+            writing::write(m, amounts::octet(register), amounts::octet(value)),
             out,
             at,
         ),
@@ -91,12 +91,7 @@ fn finish(numbers: Three, m: Machine, out: &mut [u8], at: usize) -> Answered
 {
     match numbers {
         Three::Values(t, p, h) => tell_outcome(
-            finishing::finish(
-                m,
-                arguments::count(t),
-                arguments::count(p),
-                arguments::count(h),
-            ),
+            finishing::finish(m, amounts::count(t), amounts::count(p), amounts::count(h)),
             out,
             at,
         ),
@@ -109,7 +104,7 @@ fn open(address: Number, m: Machine, out: &mut [u8], at: usize) -> Answered
     ensures { λ r. ⌜ (r .machine, (now (out .exit), r .at)) ≡ happenings.opening address m (now (out .entry), at) ⌝ }
 {
     match address {
-        Number::Value(n) => tell_outcome(bursts::open(m, arguments::octet(n)), out, at),
+        Number::Value(n) => tell_outcome(bursts::open(m, amounts::octet(n)), out, at),
         Number::Refused(reason) => stay(m, phrases::refuse(reason, out, at)),
     }
 }

@@ -45,8 +45,8 @@ pub fn close(length: Number, m: Machine, out: &mut [u8], at: usize) -> Answered
 fn close_with(length: usize, m: Machine, out: &mut [u8], at: usize) -> Answered
     ensures { λ r. ⌜ (r .machine, (now (out .exit), r .at)) ≡ happenings.closeWith length m (now (out .entry), at) ⌝ }
 {
-    let mut lent = arguments::filled();
-    let n = arguments::within(length);
+    let mut lent = amounts::filled();
+    let n = amounts::within(length);
     close_into(m, &mut lent[..n], out, at)
 }
 

@@ -20,7 +20,8 @@ use Rattle.bus.specs.Writing.{encodedWrite, decodedWrite}
 use Rattle.bus.specs.Reading.{encodedRead}
 use Rattle.phrases.specs.Phrases.{refused, buffered}
 use Rattle.arguments.specs.Words as words
-use Rattle.arguments.specs.Words.{bytesAt, octet, lentOf}
+use Rattle.amounts.specs.Amounts.{octet, lentOf}
+use Rattle.arguments.specs.Words.{bytesAt}
 
 -- the number of bytes, after the address where there is one
 abbrev pub addressAndBytes : List ℕ → Page → Page

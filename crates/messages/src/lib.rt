@@ -32,7 +32,7 @@ pub fn answer(message: Message, line: &[u8], out: &mut [u8], at: usize) -> usize
 fn i2c_write(line: &[u8], out: &mut [u8], at: usize) -> usize
     ensures { λ r. ⌜ (now (out .exit), r) ≡ messages.i2cWrite (now (line .entry)) (now (out .entry), at) ⌝ }
 {
-    let mut pairs = arguments::room();
+    let mut pairs = amounts::room();
     let address = arguments::pair(line, 2);
     let count = arguments::bytes(line, 3, &mut pairs);
     let length = arguments::length(line, 4);
@@ -48,7 +48,7 @@ fn i2c_write(line: &[u8], out: &mut [u8], at: usize) -> usize
 fn i2c_decode(line: &[u8], out: &mut [u8], at: usize) -> usize
     ensures { λ r. ⌜ (now (out .exit), r) ≡ messages.decode I2c (now (line .entry)) (now (out .entry), at) ⌝ }
 {
-    let mut bytes = arguments::room();
+    let mut bytes = amounts::room();
     let count = arguments::bytes(line, 2, &mut bytes);
     let length = arguments::length(line, 3);
     decode(Bus::I2c, arguments::both(count, length), &bytes, out, at)
@@ -68,7 +68,7 @@ fn i2c_read(line: &[u8], out: &mut [u8], at: usize) -> usize
 fn spi_write(line: &[u8], out: &mut [u8], at: usize) -> usize
     ensures { λ r. ⌜ (now (out .exit), r) ≡ messages.spiWrite (now (line .entry)) (now (out .entry), at) ⌝ }
 {
-    let mut pairs = arguments::room();
+    let mut pairs = amounts::room();
     let count = arguments::bytes(line, 2, &mut pairs);
     let length = arguments::length(line, 3);
     write_selected(arguments::both(count, length), &pairs, out, at)
@@ -78,7 +78,7 @@ fn spi_write(line: &[u8], out: &mut [u8], at: usize) -> usize
 fn spi_decode(line: &[u8], out: &mut [u8], at: usize) -> usize
     ensures { λ r. ⌜ (now (out .exit), r) ≡ messages.decode Spi (now (line .entry)) (now (out .entry), at) ⌝ }
 {
-    let mut bytes = arguments::room();
+    let mut bytes = amounts::room();
     let count = arguments::bytes(line, 2, &mut bytes);
     let length = arguments::length(line, 3);
     decode(Bus::Spi, arguments::both(count, length), &bytes, out, at)
@@ -99,7 +99,7 @@ fn write_at(numbers: Three, pairs: &[u8], out: &mut [u8], at: usize) -> usize
 {
     match numbers {
         Three::Values(address, count, length) => write_with(
-            Device::At(arguments::octet(address)),
+            Device::At(amounts::octet(address)),
             front(pairs, count),
             length,
             out,
@@ -131,8 +131,8 @@ fn read_at(numbers: Three, out: &mut [u8], at: usize) -> usize
 {
     match numbers {
         Three::Values(address, register, length) => read_with(
-            Device::At(arguments::octet(address)),
-            arguments::octet(register),
+            Device::At(amounts::octet(address)),
+            amounts::octet(register),
             length,
             out,
             at,
@@ -148,7 +148,7 @@ fn read_selected(numbers: Two, out: &mut [u8], at: usize) -> usize
     match numbers {
         Two::Values(register, length) => read_with(
             Device::Selected,
-            arguments::octet(register),
+            amounts::octet(register),
             length,
             out,
             at,
@@ -171,8 +171,8 @@ fn decode(bus: Bus, numbers: Two, bytes: &[u8], out: &mut [u8], at: usize) -> us
 fn write_with(device: Device, pairs: &[u8], length: usize, out: &mut [u8], at: usize) -> usize
     ensures { λ r. ⌜ (now (out .exit), r) ≡ messages.writeWith device (now (pairs .entry)) length (now (out .entry), at) ⌝ }
 {
-    let mut lent = arguments::filled();
-    let n = arguments::within(length);
+    let mut lent = amounts::filled();
+    let n = amounts::within(length);
     write_into(device, pairs, &mut lent[..n], out, at)
 }
 
@@ -188,8 +188,8 @@ fn write_into(device: Device, pairs: &[u8], lent: &mut [u8], out: &mut [u8], at:
 fn read_with(device: Device, register: u8, length: usize, out: &mut [u8], at: usize) -> usize
     ensures { λ r. ⌜ (now (out .exit), r) ≡ messages.readWith device register length (now (out .entry), at) ⌝ }
 {
-    let mut lent = arguments::filled();
-    let n = arguments::within(length);
+    let mut lent = amounts::filled();
+    let n = amounts::within(length);
     read_into(device, register, &mut lent[..n], out, at)
 }
 
@@ -205,8 +205,8 @@ fn read_into(device: Device, register: u8, lent: &mut [u8], out: &mut [u8], at: 
 fn decode_with(bus: Bus, bytes: &[u8], length: usize, out: &mut [u8], at: usize) -> usize
     ensures { λ r. ⌜ (now (out .exit), r) ≡ messages.decodeWith bus (now (bytes .entry)) length (now (out .entry), at) ⌝ }
 {
-    let mut lent = arguments::filled();
-    let n = arguments::within(length);
+    let mut lent = amounts::filled();
+    let n = amounts::within(length);
     decode_into(bus, bytes, &mut lent[..n], out, at)
 }
 

@@ -28,7 +28,8 @@ use Rattle.compensation.specs.declared.Answer.{Answer}
 use Rattle.compensation.specs.declared.Answer.the-variants as reading
 use Rattle.compensation.specs.Compensation.{compensated}
 use Rattle.phrases.specs.Phrases.{refused}
-use Rattle.arguments.specs.Words.{bytesAt, decimals, code}
+use Rattle.amounts.specs.Amounts.{code}
+use Rattle.arguments.specs.Words.{bytesAt, decimals}
 
 -- ---- cal B1 B2
 

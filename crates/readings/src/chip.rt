@@ -17,8 +17,8 @@ use formulas::TemperatureAnswer;
 pub fn cal(line: &[u8], out: &mut [u8], at: usize) -> usize
     ensures { λ r. ⌜ (now (out .exit), r) ≡ readings.cal (now (line .entry)) (now (out .entry), at) ⌝ }
 {
-    let mut one = arguments::room();
-    let mut two = arguments::room();
+    let mut one = amounts::room();
+    let mut two = amounts::room();
     let first = arguments::bytes(line, 1, &mut one);
     let second = arguments::bytes(line, 2, &mut two);
     calibrate(arguments::both(first, second), &one, &two, out, at)
@@ -103,9 +103,9 @@ fn tell_humidity_words(w: HumidityWords, out: &mut [u8], at: usize) -> usize
 pub fn comp(line: &[u8], out: &mut [u8], at: usize) -> usize
     ensures { λ r. ⌜ (now (out .exit), r) ≡ readings.comp (now (line .entry)) (now (out .entry), at) ⌝ }
 {
-    let mut one = arguments::room();
-    let mut two = arguments::room();
-    let mut data = arguments::room();
+    let mut one = amounts::room();
+    let mut two = amounts::room();
+    let mut data = amounts::room();
     let first = arguments::bytes(line, 1, &mut one);
     let second = arguments::bytes(line, 2, &mut two);
     let third = arguments::bytes(line, 3, &mut data);
@@ -162,9 +162,9 @@ fn compensate_coded(
                 one,
                 two,
                 data,
-                arguments::code(t),
-                arguments::code(p),
-                arguments::code(h),
+                amounts::code(t),
+                amounts::code(p),
+                amounts::code(h),
             ),
             out,
             at,

@@ -17,7 +17,8 @@ use Rattle.waiting.specs.Waiting.{waited, maximum, typical}
 use Rattle.waiting.specs.Polling.{polled}
 use Rattle.phrases.specs.Phrases.{refused}
 use Rattle.arguments.specs.Words as words
-use Rattle.arguments.specs.Words.{bytesAt, decimals, code}
+use Rattle.amounts.specs.Amounts.{code}
+use Rattle.arguments.specs.Words.{bytesAt, decimals}
 
 -- ---- wait max t p h, wait typ t p h
 

@@ -27,7 +27,7 @@ fn wait_at_most(codes: Three, out: &mut [u8], at: usize) -> usize
 {
     match codes {
         Three::Values(t, p, h) => tell_wait(
-            waiting::maximum_wait(arguments::code(t), arguments::code(p), arguments::code(h)),
+            waiting::maximum_wait(amounts::code(t), amounts::code(p), amounts::code(h)),
             out,
             at,
         ),
@@ -41,7 +41,7 @@ fn wait_typically(codes: Three, out: &mut [u8], at: usize) -> usize
 {
     match codes {
         Three::Values(t, p, h) => tell_wait(
-            waiting::typical_wait(arguments::code(t), arguments::code(p), arguments::code(h)),
+            waiting::typical_wait(amounts::code(t), amounts::code(p), amounts::code(h)),
             out,
             at,
         ),
@@ -66,7 +66,7 @@ fn tell_wait(wait: Wait, out: &mut [u8], at: usize) -> usize
 fn poll(line: &[u8], out: &mut [u8], at: usize) -> usize
     ensures { λ r. ⌜ (now (out .exit), r) ≡ times.poll (now (line .entry)) (now (out .entry), at) ⌝ }
 {
-    let mut status = arguments::room();
+    let mut status = amounts::room();
     let allowance = arguments::decimal(line, 1);
     let length = arguments::bytes(line, 2, &mut status);
     poll_read(arguments::both(allowance, length), &status, out, at)

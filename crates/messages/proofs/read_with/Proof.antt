@@ -1,7 +1,7 @@
 -- The front of the filled buffer that is of the length asked.
 use Rattle.messages.specs.Messages.{readWith}
-use Rattle.arguments.specs.Words.{lentOf}
-use Rattle.arguments.specs.Lent.{within-whole, lent-length}
+use Rattle.amounts.specs.Amounts.{lentOf}
+use Rattle.amounts.specs.Lent.{within-whole, lent-length}
 use borrow.Author.Needs.{needs}
 use Rattle.messages.proofs.read_with.Statement.{statement}
 use Rattle.messages.proofs.read_with.Tie as tie

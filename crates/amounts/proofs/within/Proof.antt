@@ -1,10 +1,10 @@
 -- The smaller of the two.
-use Rattle.arguments.specs.Words.{within}
+use Rattle.amounts.specs.Amounts.{within}
 use native.Mathlib.Nat.{min-eq-left, min-eq-right, le-of-lt}
 use mathlib.Core.Path.{sym}
 use native.Mathlib.Omega.{arith}
-use Rattle.arguments.proofs.within.Statement.{statement}
-use Rattle.arguments.proofs.within.Tie as tie
+use Rattle.amounts.proofs.within.Statement.{statement}
+use Rattle.amounts.proofs.within.Tie as tie
 
 returns : tie.Need-returns
 unfolding within

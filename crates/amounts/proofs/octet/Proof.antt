@@ -1,9 +1,9 @@
 -- The remainder.
-use Rattle.arguments.specs.Words.{octet}
+use Rattle.amounts.specs.Amounts.{octet}
 use mathlib.Core.Path.{refl}
 use borrow.Author.Needs.{needs}
-use Rattle.arguments.proofs.octet.Statement.{statement}
-use Rattle.arguments.proofs.octet.Tie as tie
+use Rattle.amounts.proofs.octet.Statement.{statement}
+use Rattle.amounts.proofs.octet.Tie as tie
 
 returns : tie.Need-returns
 unfolding octet

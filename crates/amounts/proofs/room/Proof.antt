@@ -1,8 +1,8 @@
 -- Zeros.
-use Rattle.arguments.specs.Words.{room}
+use Rattle.amounts.specs.Amounts.{room}
 use mathlib.Core.Path.{refl}
-use Rattle.arguments.proofs.room.Statement.{statement}
-use Rattle.arguments.proofs.room.Tie as tie
+use Rattle.amounts.proofs.room.Statement.{statement}
+use Rattle.amounts.proofs.room.Tie as tie
 
 returns : tie.Need-returns
 unfolding room

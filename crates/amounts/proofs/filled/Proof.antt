@@ -1,8 +1,8 @@
 -- Bytes AA.
-use Rattle.arguments.specs.Words.{filled}
+use Rattle.amounts.specs.Amounts.{filled}
 use mathlib.Core.Path.{refl}
-use Rattle.arguments.proofs.filled.Statement.{statement}
-use Rattle.arguments.proofs.filled.Tie as tie
+use Rattle.amounts.proofs.filled.Statement.{statement}
+use Rattle.amounts.proofs.filled.Tie as tie
 
 returns : tie.Need-returns
 unfolding filled

@@ -1,9 +1,9 @@
 -- The remainder.
-use Rattle.arguments.specs.Words.{count}
+use Rattle.amounts.specs.Amounts.{count}
 use mathlib.Core.Path.{refl}
 use borrow.Author.Needs.{needs}
-use Rattle.arguments.proofs.count.Statement.{statement}
-use Rattle.arguments.proofs.count.Tie as tie
+use Rattle.amounts.proofs.count.Statement.{statement}
+use Rattle.amounts.proofs.count.Tie as tie
 
 returns : tie.Need-returns
 unfolding count

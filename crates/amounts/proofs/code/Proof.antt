@@ -1,10 +1,10 @@
 -- The smaller of the two.
-use Rattle.arguments.specs.Words.{code}
+use Rattle.amounts.specs.Amounts.{code}
 use native.Mathlib.Nat.{min-eq-left, min-eq-right, le-of-lt}
 use mathlib.Core.Path.{sym}
 use borrow.Author.Needs.{needs}
-use Rattle.arguments.proofs.code.Statement.{statement}
-use Rattle.arguments.proofs.code.Tie as tie
+use Rattle.amounts.proofs.code.Statement.{statement}
+use Rattle.amounts.proofs.code.Tie as tie
 
 returns : tie.Need-returns
 unfolding code

@@ -1,0 +1,3 @@
+-- Codes, bytes, counts and lengths, and the arrays beside them.
+pub mod Amounts
+pub mod Lent
