@@ -4,28 +4,9 @@ ghost use mathlib.Core.Path.{_≡_};
 ghost use Rattle.machine.specs.State as state;
 ghost use Rattle.machine.specs.Counts as counts;
 ghost use Rattle.machine.specs.Events as ev;
-use machine::Codes;
 use machine::Conversion;
 use machine::Machine;
 use machine::Tally;
-
-// No conversion.
-pub fn no_conversion() -> Conversion
-    ensures { λ r. ⌜ r ≡ state.noConversion ⌝ }
-{
-    let codes = Codes {
-        temperature: 0,
-        pressure: 0,
-        humidity: 0,
-    };
-    let bytes = paper::FRESH_BYTES;
-    Conversion {
-        number: 0,
-        codes: codes,
-        bytes: bytes,
-        delivered: false,
-    }
-}
 
 // Whether there is a conversion.
 fn is_there(c: Conversion) -> bool
@@ -80,7 +61,7 @@ pub fn show_waiting(m: Machine) -> Machine
     let waiting = m.waiting;
     if is_there(waiting) {
         let mut n = show(waiting, m);
-        n.waiting = no_conversion();
+        n.waiting = states::no_conversion();
         n
     } else {
         m

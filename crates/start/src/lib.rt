@@ -51,7 +51,7 @@ fn fresh_with(l: Ledger) -> Machine
         held: Held::Nothing,
         codes: codes,
     };
-    let none = conversions::no_conversion();
+    let none = states::no_conversion();
     Machine {
         device: device,
         burst: Burst::Closed,

@@ -1,9 +1,11 @@
-// What is asked of a state, one field of an enum type changed, and an event's answer.
+// What is asked of a state, one field of an enum type changed, no conversion, and an event's answer.
 ghost use mathlib.Core.Path.{_≡_};
 ghost use Rattle.machine.specs.Events as ev;
 ghost use Rattle.machine.specs.Fields as fields;
 ghost use Rattle.machine.specs.State as state;
 use machine::Burst;
+use machine::Codes;
+use machine::Conversion;
 use machine::Device;
 use machine::Held;
 use machine::Machine;
@@ -85,5 +87,23 @@ pub fn answer(number: u8, m: Machine) -> Outcome
     Outcome {
         answer: number,
         machine: m,
+    }
+}
+
+// No conversion.
+pub fn no_conversion() -> Conversion
+    ensures { λ r. ⌜ r ≡ state.noConversion ⌝ }
+{
+    let codes = Codes {
+        temperature: 0,
+        pressure: 0,
+        humidity: 0,
+    };
+    let bytes = paper::FRESH_BYTES;
+    Conversion {
+        number: 0,
+        codes: codes,
+        bytes: bytes,
+        delivered: false,
     }
 }
