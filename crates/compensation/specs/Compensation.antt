@@ -22,11 +22,11 @@ use Rattle.formulas.specs.declared.HumidityAnswer.the-variants as damp
 use Rattle.temperature.specs.Temperature.{temperatureOf}
 use Rattle.pressure.specs.Pressure.{pressureOf}
 use Rattle.humidity.specs.Humidity.{humidityOf}
-use Rattle.compensation.specs.declared.Counts.{Counts}
+use Rattle.counts.specs.declared.Counts.{Counts}
 use Rattle.compensation.specs.declared.Reading.{Reading}
 use Rattle.compensation.specs.declared.Answer.{Answer}
 use Rattle.compensation.specs.declared.Answer.the-variants.{Done, Refused}
-use Rattle.compensation.specs.Counts.{countsOf}
+use Rattle.counts.specs.Counts.{countsOf}
 
 -- ---- the channels: code 0 means skipped
 

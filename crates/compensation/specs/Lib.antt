@@ -1,4 +1,3 @@
 -- Compensation: from the blocks, the eight bytes and the codes to the three channels.
-pub mod Counts
 pub mod Compensation
 pub mod Missing

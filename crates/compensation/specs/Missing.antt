@@ -12,9 +12,9 @@ use Rattle.formulas.specs.declared.HumidityAnswer.the-variants as damp
 use Rattle.temperature.specs.Temperature.{temperatureOf}
 use Rattle.pressure.specs.Pressure.{pressureOf}
 use Rattle.humidity.specs.Humidity.{humidityOf}
-use Rattle.compensation.specs.declared.Counts.{Counts}
+use Rattle.counts.specs.declared.Counts.{Counts}
 use Rattle.compensation.specs.Compensation.{reading}
-use Rattle.compensation.specs.Counts.{countsOf}
+use Rattle.counts.specs.Counts.{countsOf}
 
 -- ---- a skipped channel is 10, whatever the bytes
 

@@ -1,12 +1,13 @@
 // The three channels of one reading: skipped by their codes, without a temperature, or by the maker's formulas.
 ghost use mathlib.Core.Path.{_≡_};
 ghost use Rattle.compensation.specs.Compensation as comp;
-use crate::Counts;
 use crate::Reading;
 use calibration::HumidityWords;
 use calibration::PressureWords;
 use calibration::TemperatureWords;
 use calibration::Words;
+use counts::Counts;
+use counts::Counts;
 use formulas::HumidityAnswer;
 use formulas::PressureAnswer;
 use formulas::TemperatureAnswer;

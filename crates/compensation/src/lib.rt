@@ -1,6 +1,5 @@
 // Compensation: what a logger's eight data bytes say of the air, channel by channel, or which number stands in a channel's place.
 ghost use mathlib.Core.Path.{_≡_};
-ghost use Rattle.compensation.specs.Counts as counted;
 ghost use Rattle.compensation.specs.Compensation as comp;
 
 mod channels;
@@ -10,13 +9,6 @@ use calibration::Words;
 use formulas::HumidityAnswer;
 use formulas::PressureAnswer;
 use formulas::TemperatureAnswer;
-
-// The counts of the three channels.
-pub struct Counts {
-    pub temperature: u32,
-    pub pressure: u32,
-    pub humidity: u32,
-}
 
 // One reading: each channel has its value, or the number in its place.
 pub struct Reading {
@@ -31,40 +23,13 @@ pub enum Answer {
     Refused(u8),
 }
 
-// The counts in the eight bytes 0xF7 to 0xFE: pressure, temperature, humidity, high byte first.
-// The low nibbles of 0xF9 and 0xFC are disregarded.
-pub fn count(bytes: [u8; 8]) -> Counts
-    ensures { λ r. ⌜ r ≡ counted.countsOf bytes ⌝ }
-{
-    Counts {
-        temperature: twenty_bits(bytes[3], bytes[4], bytes[5]),
-        pressure: twenty_bits(bytes[0], bytes[1], bytes[2]),
-        humidity: sixteen_bits(bytes[6], bytes[7]),
-    }
-}
-
-// The twenty bits of two bytes and the high nibble of a third.
-// The third byte's low nibble is disregarded.
-fn twenty_bits(high: u8, middle: u8, low: u8) -> u32
-    ensures { λ r. ⌜ r ≡ counted.twentyBits high middle low ⌝ }
-{
-    high as u32 * 4096 + middle as u32 * 16 + (low / 16) as u32
-}
-
-// The sixteen bits of two bytes.
-fn sixteen_bits(high: u8, low: u8) -> u32
-    ensures { λ r. ⌜ r ≡ counted.sixteenBits high low ⌝ }
-{
-    high as u32 * 256 + low as u32
-}
-
 // The reading that eight bytes make with a chip's words, at the codes of temperature, pressure and humidity.
 // A code above 7 refuses it with 7.
 pub fn compensate_words(words: Words, bytes: [u8; 8], t: u8, p: u8, h: u8) -> Answer
     ensures { λ r. ⌜ r ≡ comp.compensatedWords words bytes t p h ⌝ }
 {
     if paper::are_codes(t, p, h) {
-        Answer::Done(channels::read(words, count(bytes), t, p, h))
+        Answer::Done(channels::read(words, counts::count(bytes), t, p, h))
     } else {
         Answer::Refused(paper::OUT_OF_RANGE)
     }

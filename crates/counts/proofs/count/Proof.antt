@@ -1,7 +1,7 @@
--- `compensation::count` meets its contract: each channel has its bytes. Assumes nothing.
+-- `counts::count` meets its contract: each channel has its bytes. Assumes nothing.
 use borrow.Author.Needs.{needs}
-use Rattle.compensation.proofs.count.Statement.{statement}
-use Rattle.compensation.proofs.count.Tie as tie
+use Rattle.counts.proofs.count.Statement.{statement}
+use Rattle.counts.proofs.count.Tie as tie
 
 returns : tie.Need-returns
 returns c = cc

@@ -2,7 +2,7 @@
 use Prim.Native.Nat.{ℕ, _+_, _*_, _/_}
 use mathlib.Core.List.{List}
 use lib.ListN.{getD}
-use Rattle.compensation.specs.declared.Counts.{Counts}
+use Rattle.counts.specs.declared.Counts.{Counts}
 
 -- two bytes and the high nibble of a third, whose low nibble is disregarded
 abbrev pub twentyBits : ℕ → ℕ → ℕ → ℕ

@@ -1,0 +1,2 @@
+-- The counts of the three channels.
+pub mod Counts
