@@ -7,7 +7,6 @@ use calibration::PressureWords;
 use calibration::TemperatureWords;
 use calibration::Words;
 use counts::Counts;
-use counts::Counts;
 use formulas::HumidityAnswer;
 use formulas::PressureAnswer;
 use formulas::TemperatureAnswer;
