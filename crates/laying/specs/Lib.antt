@@ -1,2 +1,2 @@
--- What lent places hold once words or channels are laid in them.
+-- What lent places hold once words are laid in them.
 pub mod Laid

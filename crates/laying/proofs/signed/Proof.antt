@@ -1,10 +1,10 @@
--- `laying::words::signed` meets its contract: a wider type keeps the number. Assumes nothing.
+-- `laying::signed` meets its contract: a wider type keeps the number. Assumes nothing.
 use native.Mathlib.Omega.{arith}
 use mir.Syntax.{w32}
 use mir.Facts.{toZ-ofZ}
 use Rattle.laying.proofs.Laws.{wider}
-use Rattle.laying.proofs.words.signed.Statement.{statement}
-use Rattle.laying.proofs.words.signed.Tie as tie
+use Rattle.laying.proofs.signed.Statement.{statement}
+use Rattle.laying.proofs.signed.Tie as tie
 
 cast-result : tie.Need-cast-result
 cast-result c = rw (toZ-ofZ (c .fits .word)) (wider w32 (omega arith) (c .fits .word))

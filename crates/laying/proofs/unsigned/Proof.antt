@@ -1,10 +1,10 @@
--- `laying::words::unsigned` meets its contract: a wider type keeps the number. Assumes nothing.
+-- `laying::unsigned` meets its contract: a wider type keeps the number. Assumes nothing.
 use mir.Syntax.{w32}
 use mir.Facts.{toZ-pos}
 use native.Mathlib.Omega.{arith}
 use borrow.Author.Needs.{needs}
-use Rattle.laying.proofs.words.unsigned.Statement.{statement}
-use Rattle.laying.proofs.words.unsigned.Tie as tie
+use Rattle.laying.proofs.unsigned.Statement.{statement}
+use Rattle.laying.proofs.unsigned.Tie as tie
 
 returns : tie.Need-returns
 returns c = toZ-pos w32 (omega arith)

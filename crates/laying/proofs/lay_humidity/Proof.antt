@@ -1,4 +1,4 @@
--- `laying::words::lay_humidity` meets its contract: each word is laid at its place. Assumes nothing.
+-- `laying::lay_humidity` meets its contract: each word is laid at its place. Assumes nothing.
 use mir.Syntax.{w8, w16, w32}
 use mir.Val.{Fits, SFits}
 use mir.Facts.{toZ-ofZ}
@@ -6,8 +6,8 @@ use Rattle.laying.proofs.Laws.{wider, wider-unsigned, stored-signed}
 use native.Mathlib.Omega.{arith}
 use lib.ListN.{length-set}
 use borrow.Author.Needs.{needs}
-use Rattle.laying.proofs.words.lay_humidity.Statement.{statement}
-use Rattle.laying.proofs.words.lay_humidity.Tie as tie
+use Rattle.laying.proofs.lay_humidity.Statement.{statement}
+use Rattle.laying.proofs.lay_humidity.Tie as tie
 
 word-fits : (s : tie.Start) → Fits w8 (s .args .w .h1) × SFits w16 (s .args .w .h2) × Fits w8 (s .args .w .h3) × SFits w16 (s .args .w .h4) × SFits w16 (s .args .w .h5) × SFits w8 (s .args .w .h6)
 word-fits s = search needs

@@ -1,13 +1,12 @@
--- `laying::channels::hand_temperature` meets its contract: by the case of the answer. Assumes nothing.
-use mir.Syntax.{w32, w64}
+-- `channels::hand_temperature` meets its contract: by the case of the answer. Assumes nothing.
+use mir.Syntax.{w32}
 use mir.Val.{SFits}
-use mir.Facts.{toZ-ofZ}
-use Rattle.laying.proofs.Laws.{wider}
+use mir.Facts.{toZ-ofZ, sfits-widen}
 use native.Mathlib.Omega.{arith}
 use lib.ListN.{length-set}
 use borrow.Author.Needs.{needs}
-use Rattle.laying.proofs.channels.hand_temperature.Statement.{statement}
-use Rattle.laying.proofs.channels.hand_temperature.Tie as tie
+use Rattle.channels.proofs.hand_temperature.Statement.{statement}
+use Rattle.channels.proofs.hand_temperature.Tie as tie
 
 value-fits : (c : tie.After-known-told2) → SFits w32 (c .before .answer2 .given .0 .0)
 value-fits c = search needs
@@ -16,10 +15,10 @@ fine-fits : (c : tie.After-known-told2) → SFits w32 (c .before .answer2 .given
 fine-fits c = search needs
 
 cast-values : tie.Need-cast-values
-cast-values c = rw (toZ-ofZ (value-fits c)) (wider w64 (omega arith) (value-fits c))
+cast-values c = rw (toZ-ofZ (value-fits c)) (sfits-widen tt (value-fits c))
 
 cast-values-2 : tie.Need-cast-values-2
-cast-values-2 c = rw (toZ-ofZ (fine-fits c)) (wider w64 (omega arith) (fine-fits c))
+cast-values-2 c = rw (toZ-ofZ (fine-fits c)) (sfits-widen tt (fine-fits c))
 
 slice-set-from-values-2 : tie.Need-slice-set-from-values-2
 slice-set-from-values-2 c = simp length-set (omega arith)
@@ -31,9 +30,9 @@ returns-2 : tie.Need-returns-2
 returns-2 c =
     rw (
       toZ-ofZ (value-fits c),
-      toZ-ofZ (wider w64 (omega arith) (value-fits c)),
+      toZ-ofZ (sfits-widen tt (value-fits c)),
       toZ-ofZ (fine-fits c),
-      toZ-ofZ (wider w64 (omega arith) (fine-fits c)),
+      toZ-ofZ (sfits-widen tt (fine-fits c)),
       c .before .answer2 .given .1,
     )
 

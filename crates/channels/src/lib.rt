@@ -1,8 +1,8 @@
-// A reading's channels, handed over as numbers in lent slices.
+// A reading laid in lent slices: the paper's number, and the channels on 0 alone.
 ghost use mathlib.Core.Path.{_≡_};
 ghost use Prim.Native.Nat.{_≤_};
 ghost use lib.ListN.{length};
-ghost use Rattle.laying.specs.Laid as into;
+ghost use Rattle.channels.specs.Channels as into;
 use compensation::Answer;
 use compensation::Reading;
 use formulas::HumidityAnswer;

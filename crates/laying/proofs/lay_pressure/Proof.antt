@@ -1,12 +1,12 @@
--- `laying::words::lay_pressure` meets its contract: each word is laid at its place. Assumes nothing.
+-- `laying::lay_pressure` meets its contract: each word is laid at its place. Assumes nothing.
 use mir.Syntax.{w16, w32}
 use mir.Val.{Fits, SFits}
 use Rattle.laying.proofs.Laws.{wider-unsigned, stored-signed}
 use native.Mathlib.Omega.{arith}
 use lib.ListN.{length-set}
 use borrow.Author.Needs.{needs}
-use Rattle.laying.proofs.words.lay_pressure.Statement.{statement}
-use Rattle.laying.proofs.words.lay_pressure.Tie as tie
+use Rattle.laying.proofs.lay_pressure.Statement.{statement}
+use Rattle.laying.proofs.lay_pressure.Tie as tie
 
 slice-set-from-words-2 : tie.Need-slice-set-from-words-2
 slice-set-from-words-2 c = simp length-set (omega arith)

@@ -1,8 +1,8 @@
--- `laying::words::hand_words` meets its contract: by the case of the calibration, and then the places decide. Assumes nothing.
+-- `laying::hand_words` meets its contract: by the case of the calibration, and then the places decide. Assumes nothing.
 use Rattle.laws.specs.Cases.{cases}
 use borrow.Author.Needs.{needs}
-use Rattle.laying.proofs.words.hand_words.Statement.{statement}
-use Rattle.laying.proofs.words.hand_words.Tie as tie
+use Rattle.laying.proofs.hand_words.Statement.{statement}
+use Rattle.laying.proofs.hand_words.Tie as tie
 
 returns : tie.Need-returns
 returns c = rw (c .before .known .given .1)
