@@ -1,7 +1,7 @@
 // The bench: reads commands from standard input, one a line, and writes their answers to standard output.
 ghost use Prim.Native.Nat.{_≤_};
 ghost use lib.ListN.{length};
-use figures::front;
+use bench_numbers::front;
 use libc::STDIN_FILENO;
 use libc::STDOUT_FILENO;
 use machine::Machine;
@@ -31,7 +31,7 @@ fn make_room(out: &[u8], at: usize) -> usize {
 // Answers a line, after which none is held.
 fn answer_line(kept: Bench, line: &[u8], out: &mut [u8]) -> Bench {
     let machine = kept.machine;
-    let done = lines::answer(line, machine, out, kept.at);
+    let done = bench_answer::answer(line, machine, out, kept.at);
     let next = done.machine;
     Bench {
         machine: next,
@@ -45,7 +45,7 @@ fn hold(kept: Bench, piece: &[u8], line: &mut [u8]) -> Bench {
     let machine = kept.machine;
     Bench {
         machine,
-        held: pages::write_text(piece, line, kept.held),
+        held: bench_page::write_text(piece, line, kept.held),
         at: kept.at,
     }
 }
@@ -132,7 +132,7 @@ fn main() {
     let mut line = [0u8; HELD];
     let mut out = io::large_buffer();
     let first = Bench {
-        machine: start::fresh(),
+        machine: machine_start::fresh(),
         held: 0,
         at: 0,
     };

@@ -13,20 +13,20 @@ use Rattle.calibration.specs.declared.Words.{Words}
 use Rattle.calibration.specs.declared.Calibration.{Calibration}
 use Rattle.calibration.specs.declared.Calibration.the-variants as blocks
 use Rattle.calibration.specs.Calibration.{calibrated}
-use Rattle.formulas.specs.declared.TemperatureAnswer.{TemperatureAnswer}
-use Rattle.formulas.specs.declared.TemperatureAnswer.the-variants as heat
-use Rattle.formulas.specs.declared.PressureAnswer.{PressureAnswer}
-use Rattle.formulas.specs.declared.PressureAnswer.the-variants as press
-use Rattle.formulas.specs.declared.HumidityAnswer.{HumidityAnswer}
-use Rattle.formulas.specs.declared.HumidityAnswer.the-variants as damp
-use Rattle.temperature.specs.Temperature.{temperatureOf}
-use Rattle.pressure.specs.Pressure.{pressureOf}
-use Rattle.humidity.specs.Humidity.{humidityOf}
-use Rattle.counts.specs.declared.Counts.{Counts}
+use Rattle.formula.specs.declared.TemperatureAnswer.{TemperatureAnswer}
+use Rattle.formula.specs.declared.TemperatureAnswer.the-variants as heat
+use Rattle.formula.specs.declared.PressureAnswer.{PressureAnswer}
+use Rattle.formula.specs.declared.PressureAnswer.the-variants as press
+use Rattle.formula.specs.declared.HumidityAnswer.{HumidityAnswer}
+use Rattle.formula.specs.declared.HumidityAnswer.the-variants as damp
+use Rattle.formula_temperature.specs.Temperature.{temperatureOf}
+use Rattle.formula_pressure.specs.Pressure.{pressureOf}
+use Rattle.formula_humidity.specs.Humidity.{humidityOf}
+use Rattle.data.specs.declared.Counts.{Counts}
 use Rattle.compensation.specs.declared.Reading.{Reading}
 use Rattle.compensation.specs.declared.Answer.{Answer}
 use Rattle.compensation.specs.declared.Answer.the-variants.{Done, Refused}
-use Rattle.counts.specs.Counts.{countsOf}
+use Rattle.data.specs.Counts.{countsOf}
 
 -- ---- the channels: code 0 means skipped
 

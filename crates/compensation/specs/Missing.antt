@@ -6,15 +6,15 @@ use borrow.Author.Tests.{ne-eqb}
 use Rattle.paper.specs.Numbers as no
 use Rattle.paper.specs.Registers as reg
 use Rattle.calibration.specs.declared.Words.{Words}
-use Rattle.formulas.specs.declared.TemperatureAnswer.the-variants as heat
-use Rattle.formulas.specs.declared.PressureAnswer.the-variants as press
-use Rattle.formulas.specs.declared.HumidityAnswer.the-variants as damp
-use Rattle.temperature.specs.Temperature.{temperatureOf}
-use Rattle.pressure.specs.Pressure.{pressureOf}
-use Rattle.humidity.specs.Humidity.{humidityOf}
-use Rattle.counts.specs.declared.Counts.{Counts}
+use Rattle.formula.specs.declared.TemperatureAnswer.the-variants as heat
+use Rattle.formula.specs.declared.PressureAnswer.the-variants as press
+use Rattle.formula.specs.declared.HumidityAnswer.the-variants as damp
+use Rattle.formula_temperature.specs.Temperature.{temperatureOf}
+use Rattle.formula_pressure.specs.Pressure.{pressureOf}
+use Rattle.formula_humidity.specs.Humidity.{humidityOf}
+use Rattle.data.specs.declared.Counts.{Counts}
 use Rattle.compensation.specs.Compensation.{reading}
-use Rattle.counts.specs.Counts.{countsOf}
+use Rattle.data.specs.Counts.{countsOf}
 
 -- ---- a skipped channel is 10, whatever the bytes
 

@@ -6,10 +6,10 @@ use calibration::HumidityWords;
 use calibration::PressureWords;
 use calibration::TemperatureWords;
 use calibration::Words;
-use counts::Counts;
-use formulas::HumidityAnswer;
-use formulas::PressureAnswer;
-use formulas::TemperatureAnswer;
+use data::Counts;
+use formula::HumidityAnswer;
+use formula::PressureAnswer;
+use formula::TemperatureAnswer;
 
 // The temperature's channel: skipped by code 0, and else the formula's answer.
 fn temperature(t: u8, words: TemperatureWords, count: u32) -> TemperatureAnswer
@@ -18,7 +18,7 @@ fn temperature(t: u8, words: TemperatureWords, count: u32) -> TemperatureAnswer
     if t == 0 {
         TemperatureAnswer::Missing(paper::SKIPPED)
     } else {
-        temperature::temperature(words, count)
+        formula_temperature::temperature(words, count)
     }
 }
 
@@ -29,7 +29,11 @@ fn pressure_at(heat: TemperatureAnswer, words: PressureWords, count: u32) -> Pre
 {
     match heat {
         TemperatureAnswer::Missing(_) => PressureAnswer::Missing(paper::NO_TEMPERATURE),
-        TemperatureAnswer::Known { value: _, fine } => pressure::pressure(words, fine, count),
+        TemperatureAnswer::Known { value: _, fine } => formula_pressure::pressure(
+            words,
+            fine,
+            count,
+        ),
     }
 }
 
@@ -51,7 +55,11 @@ fn humidity_at(heat: TemperatureAnswer, words: HumidityWords, count: u32) -> Hum
 {
     match heat {
         TemperatureAnswer::Missing(_) => HumidityAnswer::Missing(paper::NO_TEMPERATURE),
-        TemperatureAnswer::Known { value: _, fine } => humidity::humidity(words, fine, count),
+        TemperatureAnswer::Known { value: _, fine } => formula_humidity::humidity(
+            words,
+            fine,
+            count,
+        ),
     }
 }
 

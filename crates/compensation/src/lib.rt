@@ -6,9 +6,9 @@ mod channels;
 
 use calibration::Calibration;
 use calibration::Words;
-use formulas::HumidityAnswer;
-use formulas::PressureAnswer;
-use formulas::TemperatureAnswer;
+use formula::HumidityAnswer;
+use formula::PressureAnswer;
+use formula::TemperatureAnswer;
 
 // One reading: each channel has its value, or the number in its place.
 pub struct Reading {
@@ -29,7 +29,7 @@ pub fn compensate_words(words: Words, bytes: [u8; 8], t: u8, p: u8, h: u8) -> An
     ensures { λ r. ⌜ r ≡ comp.compensatedWords words bytes t p h ⌝ }
 {
     if paper::are_codes(t, p, h) {
-        Answer::Done(channels::read(words, counts::count(bytes), t, p, h))
+        Answer::Done(channels::read(words, data::count(bytes), t, p, h))
     } else {
         Answer::Refused(paper::OUT_OF_RANGE)
     }

@@ -9,14 +9,14 @@ ghost use Rattle.bus.specs.declared.Bus.the-variants.{I2c, Spi};
 ghost use Rattle.bus.specs.declared.Device.the-variants.{At, Selected};
 ghost use Rattle.bus.specs.Writing.{encodedWrite, decodedWrite};
 ghost use Rattle.bus.specs.Reading.{encodedRead};
-ghost use Rattle.laying.specs.Laid.{wordsInto};
-ghost use Rattle.channels.specs.Channels.{readingInto};
-ghost use Rattle.handing.specs.Handed.{numberInto, placeInto, pollsOf};
+ghost use Rattle.onegrish_laying.specs.Laid.{wordsInto};
+ghost use Rattle.onegrish_channels.specs.Channels.{readingInto};
+ghost use Rattle.onegrish_handing.specs.Handed.{numberInto, placeInto, pollsOf};
 ghost use Rattle.onegrish.specs.Lent.{bytesInto, pairsInto};
 use bus::Bus;
 use bus::Device;
-use handing::messages;
-use handing::times;
+use onegrish_handing::messages;
+use onegrish_handing::times;
 
 // The 18 words T1 to T3, P1 to P9, H1 to H6 of the two calibration blocks, at the front of `words`.
 // 2 for blocks that are not 26 and 7 bytes long, then 9 for fewer than 18 places.
@@ -24,7 +24,7 @@ use handing::times;
 pub extern "C" fn onegrish_words(one: &[u8], two: &[u8], words: &mut [i32]) -> u8
     ensures { λ r. ⌜ (r, now (words .exit)) ≡ wordsInto (calibrated (now (one .entry)) (now (two .entry))) (now (words .entry)) ⌝ }
 {
-    laying::hand_words(calibration::calibrate(one, two), words)
+    onegrish_laying::hand_words(calibration::calibrate(one, two), words)
 }
 
 // One reading: its channels' numbers at the front of `numbers`, and at the front of `values` the temperature, the fine
@@ -43,7 +43,7 @@ pub extern "C" fn onegrish_compensate(
 ) -> u8
     ensures { λ r. ⌜ (r, now (numbers .exit), now (values .exit)) ≡ readingInto (compensated (now (one .entry)) (now (two .entry)) (now (bytes .entry)) t p h) (now (numbers .entry)) (now (values .entry)) ⌝ }
 {
-    channels::hand_reading(
+    onegrish_channels::hand_reading(
         compensation::compensate(one, two, bytes, t, p, h),
         numbers,
         values,

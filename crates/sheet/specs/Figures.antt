@@ -5,12 +5,12 @@ use mathlib.Core.List.{List, [], _∷_, _++_}
 use lib.IntN.{ℤ, pos}
 use Rattle.paper.specs.Numbers as no
 use Rattle.paper.specs.Answers.{Answer}
-use Rattle.formulas.specs.declared.TemperatureAnswer.{TemperatureAnswer}
-use Rattle.formulas.specs.declared.TemperatureAnswer.the-variants as heat
-use Rattle.formulas.specs.declared.PressureAnswer.{PressureAnswer}
-use Rattle.formulas.specs.declared.PressureAnswer.the-variants as press
-use Rattle.formulas.specs.declared.HumidityAnswer.{HumidityAnswer}
-use Rattle.formulas.specs.declared.HumidityAnswer.the-variants as damp
+use Rattle.formula.specs.declared.TemperatureAnswer.{TemperatureAnswer}
+use Rattle.formula.specs.declared.TemperatureAnswer.the-variants as heat
+use Rattle.formula.specs.declared.PressureAnswer.{PressureAnswer}
+use Rattle.formula.specs.declared.PressureAnswer.the-variants as press
+use Rattle.formula.specs.declared.HumidityAnswer.{HumidityAnswer}
+use Rattle.formula.specs.declared.HumidityAnswer.the-variants as damp
 use Rattle.compensation.specs.declared.Reading.{Reading}
 use Rattle.machine.specs.declared.Closing.{Closing}
 use Rattle.machine.specs.declared.Ledger.{Ledger}

@@ -6,8 +6,8 @@ use lib.IntN.{ℤ, pos, zero-*ℤ, *ℤ-zero}
 use Rattle.steps.specs.Step.{onValue, onValues}
 use Rattle.steps.specs.Work.{run}
 use Rattle.calibration.specs.declared.HumidityWords.{HumidityWords}
-use Rattle.formulas.specs.declared.HumidityAnswer.the-variants as humidity
-use Rattle.humidity.specs.Humidity as h
+use Rattle.formula.specs.declared.HumidityAnswer.the-variants as humidity
+use Rattle.formula_humidity.specs.Humidity as h
 
 abbrev pub k5Words : ℤ → ℕ → ℤ → ℤ → HumidityWords
 k5Words h4 h3 h5 h6 = record { h1 = 75; h2 = pos 362; h3 = h3; h4 = h4; h5 = h5; h6 = h6 }

@@ -12,11 +12,11 @@ use Rattle.calibration.specs.declared.PressureWords.{PressureWords}
 use Rattle.calibration.specs.declared.HumidityWords.{HumidityWords}
 use Rattle.calibration.specs.declared.Words.{Words}
 use Rattle.calibration.specs.Calibration.{humidityWords}
-use Rattle.formulas.specs.declared.TemperatureAnswer.{TemperatureAnswer}
-use Rattle.formulas.specs.declared.TemperatureAnswer.the-variants as heat
-use Rattle.temperature.specs.Temperature as t
-use Rattle.pressure.specs.Pressure as p
-use Rattle.humidity.specs.Humidity as h
+use Rattle.formula.specs.declared.TemperatureAnswer.{TemperatureAnswer}
+use Rattle.formula.specs.declared.TemperatureAnswer.the-variants as heat
+use Rattle.formula_temperature.specs.Temperature as t
+use Rattle.formula_pressure.specs.Pressure as p
+use Rattle.formula_humidity.specs.Humidity as h
 use Rattle.compensation.specs.Compensation.{pressureAt, humidityAt, reading}
 use Rattle.waiting.specs.Waiting as w
 use Rattle.waiting.specs.Polling as poll

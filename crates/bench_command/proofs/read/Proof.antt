@@ -1,0 +1,23 @@
+-- The length, and then the words.
+use Rattle.laws.specs.Cases.{cases}
+use Rattle.bench_command.specs.Commands.{asked}
+use borrow.Author.Needs.{needs}
+use Rattle.bench_command.proofs.read.Statement.{statement}
+use Rattle.bench_command.proofs.read.Tie as tie
+
+returns : tie.Need-returns
+unfolding asked
+returns c = search cases
+
+returns-2 : tie.Need-returns-2
+unfolding asked
+returns-2 c = search cases
+
+returns-3 : tie.Need-returns-3
+unfolding asked
+returns-3 c = rw (c .counted .ensures, c .before .command .ensures, c .before .before .count .ensures) (search cases)
+
+pub read-spec : {M : Type 1} → statement M
+read-spec =
+    tie.close
+    (tie.spec returns returns-2 (λ c κs. search needs) (λ c κs. search needs) (λ c κs. search needs) returns-3)

@@ -1,0 +1,31 @@
+-- The tests of the definition, in its order.
+use Rattle.laws.specs.Cases.{cases}
+use Rattle.bench_command.specs.Commands.{change}
+use borrow.Author.Needs.{needs}
+use Rattle.bench_command.proofs.verbs.change.Statement.{statement}
+use Rattle.bench_command.proofs.verbs.change.Tie as tie
+
+returns : tie.Need-returns
+unfolding change
+returns c = search cases
+
+returns-2 : tie.Need-returns-2
+unfolding change
+returns-2 c = search cases
+
+returns-3 : tie.Need-returns-3
+unfolding change
+returns-3 c = search cases
+
+pub change-spec : {M : Type 1} → statement M
+change-spec =
+    tie.close
+    (tie.spec
+    (λ c. search needs)
+    (λ c κs. search needs)
+    returns
+    (λ c. search needs)
+    (λ c κs. search needs)
+    returns-2
+    (λ c κs. search needs)
+    returns-3)

@@ -1,0 +1,96 @@
+-- The cases of the definition, with what was read of the line.
+use borrow.Author.Needs.{needs}
+use Rattle.bench_machine.proofs.answer.Statement.{statement}
+use Rattle.bench_machine.proofs.answer.Tie as tie
+
+returns : tie.Need-returns
+returns c = rw (c .before .before .before .before .enum-told .given .1, c .before .before .fresh .ensures)
+
+returns-2 : tie.Need-returns-2
+returns-2 c = rw (c .before .before .before .before .before .enum-told2 .given .1, c .before .before .fresh-after .ensures, c .before .before .before .before .decimal .ensures)
+
+returns-3 : tie.Need-returns-3
+returns-3 c = rw (c .before .before .before .before .before .enum-told3 .given .1, c .before .before .tell-outcome .ensures, c .before .before .before .before .power .ensures)
+
+returns-4 : tie.Need-returns-4
+returns-4 c = rw (c .before .before .before .before .before .enum-told4 .given .1, c .before .before .tell-outcome2 .ensures, c .before .before .before .before .copied .ensures)
+
+returns-5 : tie.Need-returns-5
+returns-5 c = rw (c .before .before .before .before .before .enum-told5 .given .1, c .before .before .tell-outcome3 .ensures, c .before .before .before .before .wake .ensures)
+
+returns-6 : tie.Need-returns-6
+returns-6 c = rw (c .before .before .before .before .before .before .before .enum-told6 .given .1, c .before .before .write .ensures, c .before .before .before .before .both .ensures, c .before .before .before .before .before .pair2 .ensures, c .before .before .before .before .before .before .pair .ensures)
+
+returns-7 : tie.Need-returns-7
+returns-7 c = rw (c .before .before .before .before .before .enum-told7 .given .1, c .before .before .finish .ensures, c .before .before .before .before .decimals .ensures)
+
+returns-8 : tie.Need-returns-8
+returns-8 c = rw (c .before .before .before .before .before .enum-told8 .given .1, c .before .before .open .ensures, c .before .before .before .before .pair3 .ensures)
+
+returns-9 : tie.Need-returns-9
+returns-9 c = rw (c .before .before .before .before .enum-told9 .given .1, c .before .before .byte .ensures)
+
+returns-10 : tie.Need-returns-10
+returns-10 c = rw (c .before .before .before .before .before .enum-told10 .given .1, c .before .before .close .ensures, c .before .before .before .before .length .ensures)
+
+returns-11 : tie.Need-returns-11
+returns-11 c = rw (c .before .before .before .before .enum-told11 .given .1, c .before .before .ledger .ensures)
+
+pub answer-spec : {M : Type 1} → statement M
+answer-spec =
+    tie.close
+    (tie.spec
+    (λ c. search needs)
+    (λ c κs. tt)
+    (λ c. search needs)
+    (λ c κs. tt)
+    (λ c κs. tt)
+    (λ c. search needs)
+    (λ c κs. tt)
+    (λ c κs. tt)
+    (λ c. search needs)
+    (λ c κs. tt)
+    (λ c κs. tt)
+    (λ c. search needs)
+    (λ c κs. tt)
+    (λ c κs. tt)
+    (λ c. search needs)
+    (λ c κs. tt)
+    (λ c κs. tt)
+    (λ c κs. tt)
+    (λ c κs. tt)
+    (λ c. search needs)
+    (λ c κs. tt)
+    (λ c κs. tt)
+    (λ c. search needs)
+    (λ c κs. tt)
+    (λ c κs. tt)
+    (λ c. search needs)
+    (λ c κs. tt)
+    (λ c. search needs)
+    (λ c κs. tt)
+    (λ c κs. tt)
+    (λ c. search needs)
+    (λ c κs. tt)
+    (λ c. search needs)
+    returns
+    (λ c. search needs)
+    returns-2
+    (λ c. search needs)
+    returns-3
+    (λ c. search needs)
+    returns-4
+    (λ c. search needs)
+    returns-5
+    (λ c. search needs)
+    returns-6
+    (λ c. search needs)
+    returns-7
+    (λ c. search needs)
+    returns-8
+    (λ c. search needs)
+    returns-9
+    (λ c. search needs)
+    returns-10
+    (λ c. search needs)
+    returns-11)

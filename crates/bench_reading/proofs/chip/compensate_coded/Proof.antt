@@ -1,0 +1,27 @@
+-- The cases of the definition.
+use borrow.Author.Needs.{needs}
+use Rattle.bench_reading.proofs.chip.compensate_coded.Statement.{statement}
+use Rattle.bench_reading.proofs.chip.compensate_coded.Tie as tie
+
+returns : tie.Need-returns
+returns c = rw (c .before .before .before .before .before .before .before .before .before .codes .given .1, c .before .before .tell-reading .ensures, c .before .before .before .before .compensate .ensures, c .before .before .before .before .before .code3 .ensures, c .before .before .before .before .before .before .code2 .ensures, c .before .before .before .before .before .before .before .code .ensures)
+
+returns-2 : tie.Need-returns-2
+returns-2 c = rw (c .before .before .before .before .before .codes2 .given .1, c .before .before .refuse .ensures)
+
+pub compensate-coded-spec : {M : Type 1} → statement M
+compensate-coded-spec =
+    tie.close
+    (tie.spec
+    (λ c. search needs)
+    (λ c κs. tt)
+    (λ c κs. tt)
+    (λ c κs. tt)
+    (λ c κs. tt)
+    (λ c κs. tt)
+    (λ c. search needs)
+    (λ c κs. tt)
+    (λ c. search needs)
+    returns
+    (λ c. search needs)
+    returns-2)

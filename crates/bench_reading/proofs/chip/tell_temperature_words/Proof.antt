@@ -1,0 +1,42 @@
+-- Each word after its name.
+use mathlib.Core.Path.{refl}
+use Rattle.bench_reading.specs.Readings.{temperatureWordsTold}
+use mir.Facts.{toZ-ofZ}
+use mir.Syntax.{w16}
+use mir.Val.{SFits}
+use borrow.Author.Needs.{needs}
+use Rattle.bench_reading.proofs.chip.tell_temperature_words.Statement.{statement}
+use Rattle.bench_reading.proofs.chip.tell_temperature_words.Tie as tie
+
+t2-fits : (s : tie.Start) → SFits w16 (s .args .w .t2)
+t2-fits s = search needs
+
+t3-fits : (s : tie.Start) → SFits w16 (s .args .w .t3)
+t3-fits s = search needs
+
+slice-aggregate-named : tie.Need-slice-aggregate-named
+slice-aggregate-named c = refl
+
+slice-aggregate-signed16 : tie.Need-slice-aggregate-signed16
+slice-aggregate-signed16 c = refl
+
+slice-aggregate-signed16-2 : tie.Need-slice-aggregate-signed16-2
+slice-aggregate-signed16-2 c = refl
+
+returns : tie.Need-returns
+unfolding temperatureWordsTold
+returns c = rw (c .before .before .signed162 .ensures, c .before .before .before .before .before .before .before .before .signed16 .ensures, c .before .before .before .before .before .before .before .before .before .before .before .before .before .before .named .ensures, toZ-ofZ (t3-fits (c .before .before .before .before .before .before .before .before .before .before .before .before .before .before .before .before .before .before .before)), toZ-ofZ (t2-fits (c .before .before .before .before .before .before .before .before .before .before .before .before .before .before .before .before .before .before .before)))
+
+pub tell-temperature-words-spec : {M : Type 1} → statement M
+tell-temperature-words-spec =
+    tie.close
+    (tie.spec
+    slice-aggregate-named
+    (λ c. search needs)
+    (λ c κs. tt)
+    slice-aggregate-signed16
+    (λ c κs. tt)
+    slice-aggregate-signed16-2
+    (λ c κs. tt)
+    (λ c. search needs)
+    returns)

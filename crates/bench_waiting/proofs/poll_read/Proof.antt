@@ -1,0 +1,25 @@
+-- The cases of the definition.
+use borrow.Author.Needs.{needs}
+use Rattle.bench_waiting.proofs.poll_read.Statement.{statement}
+use Rattle.bench_waiting.proofs.poll_read.Tie as tie
+
+returns : tie.Need-returns
+returns c = rw (c .before .before .before .before .before .before .before .numbers .given .1, c .before .before .tell-poll .ensures, c .before .before .before .before .poll .ensures, c .before .before .before .before .before .front .ensures)
+
+returns-2 : tie.Need-returns-2
+returns-2 c = rw (c .before .before .before .before .before .numbers2 .given .1, c .before .before .refuse .ensures)
+
+pub poll-read-spec : {M : Type 1} → statement M
+poll-read-spec =
+    tie.close
+    (tie.spec
+    (λ c. search needs)
+    (λ c κs. tt)
+    (λ c κs. tt)
+    (λ c κs. tt)
+    (λ c. search needs)
+    (λ c κs. tt)
+    (λ c. search needs)
+    returns
+    (λ c. search needs)
+    returns-2)

@@ -1,0 +1,60 @@
+// What the maker's three formulas share: their answers, the numbers that they are given, and the guard of the plain roads on
+// the fine temperature.
+ghost use mathlib.Core.Path.{_≡_};
+ghost use lib.IntN.{pos};
+ghost use Rattle.formula.specs.Plain.{isUsual};
+use steps::Num;
+
+// A temperature in hundredths of a degree with the fine temperature, or the number of what took their place.
+pub enum TemperatureAnswer {
+    Known { value: i32, fine: i32 },
+    Missing(u8),
+}
+
+// A pressure in Pa times 256, or the number of what took its place.
+pub enum PressureAnswer {
+    Known(u32),
+    Missing(u8),
+}
+
+// A humidity in %RH times 1024, or the number of what took its place.
+pub enum HumidityAnswer {
+    Known(u32),
+    Missing(u8),
+}
+
+// A count, or a word without a sign, as the number that a formula is given.
+pub fn unsigned(n: u32) -> Num
+    ensures { λ r. ⌜ r ≡ Num.Value (pos n) ⌝ }
+{
+    Num::Value(n as i64)
+}
+
+// A word of 8 bits with a sign, as such a number.
+pub fn signed8(x: i8) -> Num
+    ensures { λ r. ⌜ r ≡ Num.Value x ⌝ }
+{
+    signed32(x as i32)
+}
+
+// A word of 16 bits with a sign, as such a number.
+pub fn signed16(x: i16) -> Num
+    ensures { λ r. ⌜ r ≡ Num.Value x ⌝ }
+{
+    signed32(x as i32)
+}
+
+// A fine temperature, as such a number.
+pub fn signed32(x: i32) -> Num
+    ensures { λ r. ⌜ r ≡ Num.Value x ⌝ }
+{
+    Num::Value(x as i64)
+}
+
+// Whether a fine temperature is one from -43 to 93 degrees.
+// Then the pressure's and the humidity's first differences are small.
+pub fn is_usual(fine: i32) -> bool
+    ensures { λ r. ⌜ r ≡ isUsual fine ⌝ }
+{
+    (-222000 <= fine) & (fine <= 478000)
+}

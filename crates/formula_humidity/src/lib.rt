@@ -1,0 +1,24 @@
+// The maker's formula of the humidity, by two roads with one promise. On the checked road every step is tested, each line of the
+// maker's a function with the line's definition as its promise. On the plain road the same lines are worked out with no
+// test, where a guard on what comes in proves that no step can leave its type. Real air takes the plain road.
+ghost use mathlib.Core.Path.{_≡_};
+ghost use Rattle.formula_humidity.specs.Humidity.{humidityOf};
+
+mod checked;
+mod guards;
+mod lines;
+mod plain;
+
+use calibration::HumidityWords;
+use formula::HumidityAnswer;
+use formula::is_usual;
+
+// The humidity of a count, with the chip's words and the fine temperature.
+pub fn humidity(words: HumidityWords, fine: i32, count: u32) -> HumidityAnswer
+    ensures { λ r. ⌜ r ≡ humidityOf words fine count ⌝ }
+{
+    if is_usual(fine) & guards::are_small(words) & (count <= 65535) {
+        return plain::humidity(words, fine, count);
+    }
+    checked::anew(checked::humidity(words, fine, count))
+}

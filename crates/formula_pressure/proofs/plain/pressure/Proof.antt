@@ -1,0 +1,111 @@
+-- `pressure::plain::pressure` meets its contract: the functions give the formula's lines one after the other; where their guard does not hold the checked road answers.
+use Prim.Native.Nat.{ℕ, _≤_}
+use mathlib.Core.Path.{_≡_, refl, _∙_}
+use native.Mathlib.Omega.{arith}
+use lib.IntN.{ℤ, pos, natAbs, _-ℤ_}
+use mir.Syntax.{w32, w64}
+use mir.Val.{SFits, toZ, ofZ}
+use mir.Facts.{toZ-ofZ}
+use borrow.Author.Needs.{needs}
+use Rattle.steps.specs.declared.Signed.the-variants.{Bits64}
+use Rattle.steps.specs.declared.Num.{Num}
+use Rattle.steps.specs.declared.Num.the-variants.{Value, Broke}
+use Rattle.steps.specs.Step.{onValue, onValues}
+use Rattle.steps.specs.Work.{run}
+use Rattle.formula_pressure.specs.Pressure.{differenceLine, offsetLines, divisorLines, quotientLines, refinedLines, pressureLines, pressureFormula, pressureOf}
+use Rattle.formula.specs.Plain.{Gives}
+use Rattle.formula_pressure.specs.Plain.{Dividing, dividendLine, divisionLine}
+use Rattle.formula.proofs.Bounds.{local, fit, back, onto, widened, word, literal, minus-within, far-is}
+use Rattle.formula_pressure.proofs.plain.pressure.Statement.{statement}
+use Rattle.formula_pressure.proofs.plain.pressure.Tie as tie
+
+on-given : (x : ℤ) (f : ℤ → Num) → onValue (Value x) f ≡ f x
+unfolding onValue
+on-given x f = refl
+
+onward : (a : Num) (f g : ℤ → Num) → onValue (onValue a f) g ≡ onValue a (λ x. onValue (f x) g)
+unfolding onValue
+onward (Value x) f g = refl
+onward (Broke n) f g = refl
+
+-- the quotient's line goes on from its dividend
+parted : (count : ℕ) (var2 var1 : ℤ) → run Bits64 (quotientLines count var2 var1) ≡ onValue (run Bits64 (dividendLine count var2)) (λ x. run Bits64 (divisionLine x var1))
+unfolding run onValues quotientLines dividendLine divisionLine
+parted count var2 var1 = simp (on-given, onward)
+
+divided : {m n : ℕ} {q : ℤ} (count : ℕ) (var2 var1 x : ℤ) → Gives Bits64 m (dividendLine count var2) x → Gives Bits64 n (divisionLine x var1) q → Gives Bits64 n (quotientLines count var2 var1) q
+divided count var2 var1 x a b =
+    record { is = parted count var2 var1 ∙ (rw (a .is) (on-given x (λ x. run Bits64 (divisionLine x var1)) ∙ b .is)); size = b .size; room = b .room }
+
+cast-difference : tie.Need-cast-difference
+cast-difference c = widened tt (c .fits .fine)
+
+difference : (s : tie.Start) → Gives Bits64 350000 (differenceLine (s .args .fine)) (local (toZ w32 (ofZ w32 (s .args .fine))) -ℤ pos 128000)
+unfolding differenceLine
+difference s =
+    minus-within (word {v = w32} (s .fits .fine) (s .pre .0 .size) refl) (literal 128000 refl) 350000
+    (rw (toZ-ofZ (s .fits .fine)) (s .pre .0 .pressure))
+    refl
+
+sub-difference : tie.Need-sub-difference
+sub-difference c = fit (difference c)
+
+near : (s : tie.Start) → natAbs (local (local (toZ w32 (ofZ w32 (s .args .fine))) -ℤ pos 128000)) ≤ 350000
+near s = rw (back (difference s)) (difference s .size)
+
+offset-requires : tie.Need-offset-requires
+offset-requires c κs = near c
+
+divisor-requires : tie.Need-divisor-requires
+divisor-requires c κs = (near (c .before), c .before .pre .1 .0)
+
+-- ---- each line's number, as the next goes on from it
+
+offset-is : (c : tie.After-offset) → Gives Bits64 6700000000000000 (offsetLines (c .before .args .words) (local (toZ w32 (ofZ w32 (c .before .args .fine))) -ℤ pos 128000)) (c .offset .result)
+offset-is c = rw (back (difference (c .before))) at (c .offset .ensures)
+
+dividend-is : (c : tie.After-dividend) → Gives Bits64 11300000000000000 (dividendLine (c .before .before .before .args .count) (c .before .before .offset .result)) (c .dividend .result)
+dividend-is c = rw (back (offset-is (c .before .before))) at (c .dividend .ensures)
+
+divisor-back : (c : tie.After-divisor) → local (c .divisor .result) ≡ c .divisor .result
+divisor-back c = let h : SFits w64 (c .divisor .result) = search needs in toZ-ofZ h
+
+dividing : (c : tie.Then1) → Dividing (local (c .before .before .dividend .result)) (local (c .before .before .before .divisor .result))
+dividing c = c .before .is-dividing .ensures (c .if1 .taken)
+
+divisor-is : (c : tie.Then1) → Gives Bits64 1073741824 (divisorLines (c .before .before .before .before .before .args .words) (local (toZ w32 (ofZ w32 (c .before .before .before .before .before .args .fine))) -ℤ pos 128000)) (c .before .before .before .divisor .result)
+divisor-is c =
+    let d = c .before .before .before in
+    let far : 134217728 ≤ natAbs (d .divisor .result) = rw (divisor-back d) at (dividing c .divisor) in
+    (rw (back (difference (d .before .before))) at (d .divisor .ensures)) (far-is (d .divisor .result) (omega arith) far)
+
+quotient-requires : tie.Need-quotient-requires
+quotient-requires c κs = dividing c
+
+quotient-is : (c : tie.After-quotient) → Gives Bits64 68719476736 (divisionLine (c .before .before .before .dividend .result) (c .before .before .before .before .divisor .result)) (c .quotient .result)
+quotient-is c =
+    let x = c .before .before .before in
+    rw (back (dividend-is x), divisor-back (x .before)) at (c .quotient .ensures)
+
+refine-is : (c : tie.After-refine) → Gives Bits64 4294967296 (refinedLines (c .before .before .before .before .before .before .before .args .words) (c .before .quotient .result)) (c .refine .result)
+refine-is c = rw (back (quotient-is (c .before))) at (c .refine .ensures)
+
+lines : (c : tie.After-refine) → Gives Bits64 4294967296 (pressureLines (c .before .before .before .before .before .before .before .args .words) (c .before .before .before .before .before .before .before .args .fine) (c .before .before .before .before .before .before .before .args .count)) (c .refine .result)
+unfolding pressureLines
+lines c =
+    let q = c .before in
+    let x = q .before .before .before in
+    let o = x .before .before in
+    onto (difference (o .before)) (onto (offset-is o) (onto (divisor-is (q .before)) (onto (divided (o .before .args .count) (o .offset .result) (x .before .divisor .result) (x .dividend .result) (dividend-is x) (quotient-is q)) (refine-is c))))
+
+returns : tie.Need-returns
+unfolding run onValue pressureFormula pressureOf
+returns c = let p = lines (c .before) in rw (p .is) (rw (back p) at (c .in-range .ensures))
+
+returns-2 : tie.Need-returns-2
+returns-2 c =
+    let s = c .before .before .before .before .before .before .before in
+    c .anew .ensures ∙ (rw (toZ-ofZ (s .fits .fine)) at (c .before .pressure .ensures))
+
+pub pressure-spec : {M : Type 1} → statement M
+pressure-spec = tie.close (tie.spec cast-difference sub-difference offset-requires divisor-requires (λ c κs. search needs) (λ c κs. search needs) quotient-requires (λ c κs. search needs) (λ c κs. search needs) returns (λ c κs. search needs) (λ c κs. search needs) returns-2)

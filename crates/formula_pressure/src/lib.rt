@@ -1,0 +1,24 @@
+// The maker's formula of the pressure, by two roads with one promise. On the checked road every step is tested, each line of the
+// maker's a function with the line's definition as its promise. On the plain road the same lines are worked out with no
+// test, where a guard on what comes in proves that no step can leave its type. Real air takes the plain road.
+ghost use mathlib.Core.Path.{_≡_};
+ghost use Rattle.formula_pressure.specs.Pressure.{pressureOf};
+
+mod checked;
+mod guards;
+mod lines;
+mod plain;
+
+use calibration::PressureWords;
+use formula::PressureAnswer;
+use formula::is_usual;
+
+// The pressure of a count, with the chip's words and the fine temperature.
+pub fn pressure(words: PressureWords, fine: i32, count: u32) -> PressureAnswer
+    ensures { λ r. ⌜ r ≡ pressureOf words fine count ⌝ }
+{
+    if is_usual(fine) & (words.p1 <= 45000) & (count <= 1048576) {
+        return plain::pressure(words, fine, count);
+    }
+    checked::anew(checked::pressure(words, fine, count))
+}

@@ -1,0 +1,90 @@
+// The fresh states, reset, and the two events of a start: power, and copied.
+ghost use mathlib.Core.Path.{_≡_};
+ghost use Rattle.machine.specs.State as state;
+ghost use Rattle.machine.specs.Events as ev;
+use machine::Burst;
+use machine::Codes;
+use machine::Device;
+use machine::Held;
+use machine::Ledger;
+use machine::Machine;
+use machine::Outcome;
+use machine::Phase;
+use machine_state::answer;
+
+// The fresh state.
+pub fn fresh() -> Machine
+    ensures { λ r. ⌜ r ≡ state.fresh ⌝ }
+{
+    fresh_after(0)
+}
+
+// The fresh state after this many conversions, all delivered.
+pub fn fresh_after(conversions: u32) -> Machine
+    ensures { λ r. ⌜ r ≡ state.freshAfter conversions ⌝ }
+{
+    let ledger = Ledger {
+        begun: conversions,
+        delivered: conversions,
+        overwritten: 0,
+        abandoned: 0,
+        standing: 0,
+    };
+    fresh_with(ledger)
+}
+
+// All fresh but the ledger.
+fn fresh_with(l: Ledger) -> Machine
+    ensures { λ r. ⌜ r ≡ state.freshWith l ⌝ }
+{
+    let codes = Codes {
+        temperature: 0,
+        pressure: 0,
+        humidity: 0,
+    };
+    let device = Device {
+        phase: Phase::Sleep,
+        copying: true,
+        f2: 0,
+        f4: 0,
+        f5: 0,
+        held: Held::Nothing,
+        codes: codes,
+    };
+    let none = machine_state::no_conversion();
+    Machine {
+        device: device,
+        burst: Burst::Closed,
+        shown: none,
+        waiting: none,
+        ledger: l,
+    }
+}
+
+// All fresh but the ledger, which counts what is abandoned.
+pub fn reset(m: Machine) -> Machine
+    ensures { λ r. ⌜ r ≡ ev.reset m ⌝ }
+{
+    fresh_with(machine_counts::count_abandoned(m.ledger))
+}
+
+// Power is lost and returns: always done.
+pub fn power(m: Machine) -> Outcome
+    ensures { λ r. ⌜ r ≡ ev.powered m ⌝ }
+{
+    answer(paper::DONE, reset(m))
+}
+
+// The calibration has been copied.
+pub fn copied(m: Machine) -> Outcome
+    ensures { λ r. ⌜ r ≡ ev.copyingEnded m ⌝ }
+{
+    let mut device = m.device;
+    if !device.copying {
+        return answer(paper::WRONG_PHASE, m);
+    }
+    device.copying = false;
+    let mut n = m;
+    n.device = device;
+    answer(paper::DONE, n)
+}

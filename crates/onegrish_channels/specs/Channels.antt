@@ -1,0 +1,63 @@
+-- A reading in lent places: the paper's number, and what the places hold then. A refusal leaves each as it was.
+use Prim.Native.Nat.{ℕ}
+use mathlib.Core.Bool.{cond}
+use mathlib.Core.List.{List}
+use lib.Dec.{leb}
+use lib.ListN.{length, set}
+use lib.IntN.{ℤ, pos}
+use Rattle.paper.specs.Numbers as no
+use Rattle.formula.specs.declared.TemperatureAnswer.{TemperatureAnswer}
+use Rattle.formula.specs.declared.TemperatureAnswer.the-variants as heat
+use Rattle.formula.specs.declared.PressureAnswer.{PressureAnswer}
+use Rattle.formula.specs.declared.PressureAnswer.the-variants as press
+use Rattle.formula.specs.declared.HumidityAnswer.{HumidityAnswer}
+use Rattle.formula.specs.declared.HumidityAnswer.the-variants as damp
+use Rattle.formula_temperature.specs.Temperature as temperature
+use Rattle.formula_pressure.specs.Pressure as pressure
+use Rattle.formula_humidity.specs.Humidity as humidity
+use Rattle.compensation.specs.declared.Reading.{Reading}
+use Rattle.compensation.specs.declared.Answer as comp
+use Rattle.compensation.specs.declared.Answer.the-variants as whole
+
+-- the three numbers, and the four values; 9 for fewer places
+
+-- a channel that has no value leaves its places as they were
+abbrev pub withTemperature : TemperatureAnswer → List ℤ → List ℤ
+withTemperature (heat.Known value fine) lent = set (set lent 0 value) 1 fine
+withTemperature (heat.Missing n) lent = lent
+
+abbrev pub withPressure : PressureAnswer → List ℤ → List ℤ
+withPressure (press.Known value) lent = set lent 2 (pos value)
+withPressure (press.Missing n) lent = lent
+
+abbrev pub withHumidity : HumidityAnswer → List ℤ → List ℤ
+withHumidity (damp.Known value) lent = set lent 3 (pos value)
+withHumidity (damp.Missing n) lent = lent
+
+abbrev pub temperatureInto : TemperatureAnswer → List ℤ → ℕ × List ℤ
+temperatureInto a lent = (temperature.numberOf a, withTemperature a lent)
+
+abbrev pub pressureInto : PressureAnswer → List ℤ → ℕ × List ℤ
+pressureInto a lent = (pressure.numberOf a, withPressure a lent)
+
+abbrev pub humidityInto : HumidityAnswer → List ℤ → ℕ × List ℤ
+humidityInto a lent = (humidity.numberOf a, withHumidity a lent)
+
+abbrev pub withNumbers : Reading → List ℕ → List ℕ
+withNumbers r lent =
+    set (set (set lent 0 (temperature.numberOf (r .temperature))) 1 (pressure.numberOf (r .pressure))) 2 (humidity.numberOf (r .humidity))
+
+abbrev pub withValues : Reading → List ℤ → List ℤ
+withValues r lent = withHumidity (r .humidity) (withPressure (r .pressure) (withTemperature (r .temperature) lent))
+
+abbrev pub channelsInto : Reading → List ℕ → List ℤ → List ℕ × List ℤ
+channelsInto r numbers values = (withNumbers r numbers, withValues r values)
+
+abbrev pub readingInto : comp.Answer → List ℕ → List ℤ → ℕ × List ℕ × List ℤ
+readingInto (whole.Refused n) numbers values = (n, numbers, values)
+readingInto (whole.Done r) numbers values =
+    cond (leb 3 (length numbers))
+    (cond (leb 4 (length values))
+    (no.done, withNumbers r numbers, withValues r values)
+    (no.bufferTooShort, numbers, values))
+    (no.bufferTooShort, numbers, values)
