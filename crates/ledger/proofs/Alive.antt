@@ -16,7 +16,9 @@ use Rattle.machine.specs.State.{fresh, noConversion, runs, isOpen, isThere, isU
 use Rattle.machine.specs.Counts.{begunIf, deliveredIf, overwrittenIf}
 use Rattle.machine.specs.Data.{stored}
 use Rattle.machine.specs.Events.{showing, delivering, waitingShown, ended, wholeClosing, awake, closed}
-use Rattle.machine.specs.Event.{Event, Power, Copied, next, after}
+use Rattle.machine.specs.declared.Event.{Event}
+use Rattle.machine.specs.declared.Event.the-variants.{Power, Copied}
+use Rattle.machine.specs.Event.{next, after}
 use Rattle.ledger.specs.Told.{history}
 use Rattle.ledger.specs.Alive.{Turn, Fits, codesOf, byWrite, byWake, measured, Begins, Delivers, MayBeginByWrite, WriteRunsTruly, MayBeginByWake, WakeRunsTruly}
 use Rattle.ledger.proofs.Book.{nonzero-pos}

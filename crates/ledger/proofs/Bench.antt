@@ -3,13 +3,16 @@ use Prim.Native.Nat.{ℕ}
 use mathlib.Core.Path.{_≡_, refl}
 use mathlib.Core.Bool.{Bool, true, false}
 use mathlib.Core.List.{List, [], _∷_, _++_}
+use lib.ListN.{length}
 use Rattle.paper.specs.Registers as reg
 use Rattle.machine.specs.declared.Codes.{Codes}
 use Rattle.machine.specs.State.{fresh}
 use Rattle.machine.specs.Control.{effect, heldEffect}
 use Rattle.machine.specs.Data.{stored}
 use Rattle.machine.specs.Events.{showing, keeping, delivering, waitingShown, closed}
-use Rattle.machine.specs.Event.{Event, Copied, Write, Finish, Wake, Open, Byte, Close, after}
+use Rattle.machine.specs.declared.Event.{Event}
+use Rattle.machine.specs.declared.Event.the-variants.{Copied, Write, Finish, Wake, Open, Byte, Close}
+use Rattle.machine.specs.Event.{after}
 use Rattle.machine.specs.Bench.{lent}
 use Rattle.ledger.specs.History.{Happening, began, finished, lost, opened, gave, wholeIn, delivered, overwritten, abandoned, standing}
 use Rattle.ledger.specs.History as hist
@@ -24,7 +27,7 @@ eight = three ++ three ++ Byte ∷ Byte ∷ []
 -- copied, write F4 0x27, finish, wake, open F7, finish, some bytes, close
 abbrev measuredTwice : List Event → List Event
 measuredTwice bytes =
-    Copied ∷ Write reg.ctrlMeas 0x27 ∷ Finish 519888 415148 0 ∷ Wake ∷ Open reg.firstData ∷ Finish 1 2 3 ∷ [] ++ bytes ++ Close lent ∷ []
+    Copied ∷ Write reg.ctrlMeas 0x27 ∷ Finish 519888 415148 0 ∷ Wake ∷ Open reg.firstData ∷ Finish 1 2 3 ∷ [] ++ bytes ++ Close (length lent) ∷ []
 
 -- 0x27: temperature and pressure once each, humidity skipped
 abbrev codes : Codes
@@ -82,7 +85,7 @@ K13-second = refl
 -- ---- K12, then two bursts of number 2, a wake, and a reset: the repeat is no second delivery, and number 3 is abandoned
 
 abbrev burst : List Event
-burst = Open reg.firstData ∷ [] ++ eight ++ Close lent ∷ []
+burst = Open reg.firstData ∷ [] ++ eight ++ Close (length lent) ∷ []
 
 abbrev worked : List Event
 worked = measuredTwice eight ++ burst ++ burst ++ Wake ∷ Write reg.reset reg.resetWord ∷ []

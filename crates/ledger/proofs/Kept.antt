@@ -20,7 +20,8 @@ use Rattle.machine.specs.State.{runs, isOpen, isThere, isUnread}
 use Rattle.machine.specs.Counts.{begunIf, deliveredIf}
 use Rattle.machine.specs.Data.{register}
 use Rattle.machine.specs.Events.{reset, showing, keeping, isWhole, delivering, waitingShown, ended}
-use Rattle.machine.specs.Event.{Event, next, after}
+use Rattle.machine.specs.declared.Event.{Event}
+use Rattle.machine.specs.Event.{next, after}
 use Rattle.ledger.specs.History.{Happening, began, finished, lost, opened, gave, closed, givenIn, wholeIn, Reading, shownBy, bit}
 use Rattle.ledger.specs.Told.{told, toldAfter, history}
 use Rattle.ledger.specs.Statements.{AreOf}

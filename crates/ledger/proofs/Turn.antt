@@ -17,13 +17,15 @@ use Rattle.machine.specs.declared.Burst.the-variants as burst
 use Rattle.machine.specs.declared.Device.{Device}
 use Rattle.machine.specs.declared.Machine.{Machine}
 use Rattle.machine.specs.declared.Outcome.{Outcome}
+use Rattle.machine.specs.declared.Closing.{Closing}
 use Rattle.machine.specs.Fields.{withPhase, withCopying, withF2, withDevice, withBurst, withLedger}
 use Rattle.machine.specs.State.{runs, isOpen}
 use Rattle.machine.specs.Counts.{isBarred, begunIf}
 use Rattle.machine.specs.Control.{phaseAfter, controlled, effect, heldBegins, heldEffect}
 use Rattle.machine.specs.Data.{inRange, stored}
-use Rattle.machine.specs.Events.{answered, mayFinish, rested, finishedOne, showing, keeping, landed, converted, awake, wholeClosing, closed}
-use Rattle.machine.specs.Event.{Finish, Wake, Open, Byte, next, after}
+use Rattle.machine.specs.Events.{answered, mayFinish, rested, finishedOne, showing, keeping, landed, converted, awake, wholeClosing, writtenTo, closed}
+use Rattle.machine.specs.declared.Event.the-variants.{Finish, Wake, Open, Byte}
+use Rattle.machine.specs.Event.{next, after}
 use Rattle.ledger.specs.Alive.{Turn, Fits, byWrite, measured}
 use Rattle.ledger.proofs.Tests.{passed}
 
@@ -114,4 +116,5 @@ module _ (m : Machine) (t : Turn) where
     pub closes : closed (after m (measured t)) (t .lent) ≡ (wholeClosing read-from, bytes)
     unfolding showing
     closes = ap (λ (k : Machine). closed k (t .lent)) measures
-        ∙ passed (not (eqb (length (t .lent)) reg.dataLength)) _ (wholeClosing read-from, bytes) (ap not (eq-eqb (length (t .lent)) reg.dataLength (f .lends-eight)))
+        ∙ ap (λ (c : Closing). (c, writtenTo c read-from (t .lent)))
+        (passed (not (eqb (length (t .lent)) reg.dataLength)) _ (wholeClosing read-from) (ap not (eq-eqb (length (t .lent)) reg.dataLength (f .lends-eight))))

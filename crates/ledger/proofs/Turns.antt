@@ -23,7 +23,8 @@ use Rattle.machine.specs.State.{fresh, noConversion, runs, isForced, isThere, i
 use Rattle.machine.specs.Counts.{begunIf, deliveredIf, overwrittenIf}
 use Rattle.machine.specs.Control.{phaseAfter}
 use Rattle.machine.specs.Events.{rested, showing, delivering, wholeClosing, awake, closed}
-use Rattle.machine.specs.Event.{Copied, Close, next, after}
+use Rattle.machine.specs.declared.Event.the-variants.{Copied, Close}
+use Rattle.machine.specs.Event.{next, after}
 use Rattle.ledger.specs.Alive.{Turn, Fits, IsForced, codesOf, byWrite, byWake, measured, Delivers, forcedTurns, AllForced, wokenTurns, normalTurns, AllFit, allDelivered, ForcedTurnsRunTruly, NormalTurnsRunTruly}
 use Rattle.ledger.proofs.Book.{same-ledger}
 use Rattle.ledger.proofs.Turn.{begun, controlledBy, mode-runs, write-begins, wake-begins, read-from, closes}
@@ -149,19 +150,19 @@ rests-normal d t e f =
 
 module _ (n : ℕ) (l : n < reg.mostBegun) (m : Machine) (t : Turn) (f : Fits t) where
   write-turn : (p : Phase) → (t .f4 % 4 ≡ 0 → ⊥) → rested (controlledBy t (m .device)) .phase ≡ p → Rests Sleep n m
-      → Rests p (n + 1) (next (after m (byWrite t ++ measured t)) (Close (t .lent)))
+      → Rests p (n + 1) (next (after m (byWrite t ++ measured t)) (Close (length (t .lent))))
   write-turn p z e r = subst (λ (k : Machine). Rests p (n + 1) (ended k t)) (sym (writes n l m t z r)) (rests n l (written n l m t) t f (write-runs n l m t z r) p e)
 
-  wake-turn : Rests Standby n m → Rests Standby (n + 1) (next (after m (byWake ++ measured t)) (Close (t .lent)))
+  wake-turn : Rests Standby n m → Rests Standby (n + 1) (next (after m (byWake ++ measured t)) (Close (length (t .lent))))
   wake-turn r = subst (λ (k : Machine). Rests Standby (n + 1) (ended k t)) (sym (wake-begins m (r .phase-is) (room n l m Standby r)))
       (rests n l (awake m) t f (wake-runs n l m r) Standby refl)
 
   -- a wake keeps the codes
-  wake-keeps : Rests Standby n m → next (after m (byWake ++ measured t)) (Close (t .lent)) .device .codes ≡ m .device .codes
+  wake-keeps : Rests Standby n m → next (after m (byWake ++ measured t)) (Close (length (t .lent))) .device .codes ≡ m .device .codes
   wake-keeps r = ap (λ (k : Machine). ended k t .device .codes) (wake-begins m (r .phase-is) (room n l m Standby r)) ∙ codes-end n l (awake m) t f (wake-runs n l m r)
 
   -- a write sets its own codes
-  write-sets : (t .f4 % 4 ≡ 0 → ⊥) → Rests Sleep n m → next (after m (byWrite t ++ measured t)) (Close (t .lent)) .device .codes ≡ codesOf t
+  write-sets : (t .f4 % 4 ≡ 0 → ⊥) → Rests Sleep n m → next (after m (byWrite t ++ measured t)) (Close (length (t .lent))) .device .codes ≡ codesOf t
   write-sets z r = ap (λ (k : Machine). ended k t .device .codes) (writes n l m t z r) ∙ codes-end n l (written n l m t) t f (write-runs n l m t z r)
 
   write-shows : (t .f4 % 4 ≡ 0 → ⊥) → Rests Sleep n m
@@ -182,7 +183,7 @@ after-forced : (ts : List Turn) (n : ℕ) (m : Machine) → AllForced ts → n +
     → Rests Sleep (n + length ts) (after m (forcedTurns ts))
 after-forced [] n m a l r = subst (λ (k : ℕ). Rests Sleep k m) (omega arith) r
 after-forced (t ∷ ts) n m a l r =
-    let k : Machine = next (after m (byWrite t ++ measured t)) (Close (t .lent)) in
+    let k : Machine = next (after m (byWrite t ++ measured t)) (Close (length (t .lent))) in
     let z : t .f4 % 4 ≡ 0 → ⊥ = a .1 .not-sleep in
     let i : Rests Sleep (n + 1) k = write-turn n (omega arith) m t (a .0) Sleep z (rests-forced (m .device) t (r .phase-is) (a .1)) r in
     subst (λ (j : ℕ). Rests Sleep j (after k (forcedTurns ts))) (omega arith) (after-forced ts (n + 1) k (a .2) (omega arith) i)
@@ -196,7 +197,7 @@ after-woken : (ts : List Turn) (c : Codes) (n : ℕ) (m : Machine) → AllFit ts
     → Woken c (n + length ts) (after m (wokenTurns ts))
 after-woken [] c n m a l r = subst (λ (k : ℕ). Woken c k m) (omega arith) r
 after-woken (t ∷ ts) c n m a l r =
-    let k : Machine = next (after m (byWake ++ measured t)) (Close (t .lent)) in
+    let k : Machine = next (after m (byWake ++ measured t)) (Close (length (t .lent))) in
     let i : Woken c (n + 1) k = record {
       stands-by = wake-turn n (omega arith) m t (a .0) (r .stands-by);
       codes-are = wake-keeps n (omega arith) m t (a .0) (r .stands-by) ∙ r .codes-are;
@@ -224,7 +225,7 @@ pub normal-turns-run-truly : (t : Turn) (ts : List Turn) → Fits t → t .f4 % 
 unfolding copied
 normal-turns-run-truly t ts f e a l =
     let z : t .f4 % 4 ≡ 0 → ⊥ = λ q. omega arith in
-    let k : Machine = next (after copied (byWrite t ++ measured t)) (Close (t .lent)) in
+    let k : Machine = next (after copied (byWrite t ++ measured t)) (Close (length (t .lent))) in
     let first : Woken (codesOf t) 1 k = record {
       stands-by = write-turn 0 (omega arith) copied t f Standby z (rests-normal (copied .device) t refl e) copied-rests;
       codes-are = write-sets 0 (omega arith) copied t f z copied-rests;

@@ -5,7 +5,6 @@ use mathlib.Core.Path.{_≡_, refl, sym, _∙_, subst}
 use mathlib.Core.Bool.{Bool, true, false, not, cond, false≢true}
 use mathlib.Core.List.{List, [], _∷_, _++_}
 use lib.Dec.{eqb, ltb}
-use lib.ListN.{length}
 use borrow.Author.Tests.{eqb-false, leb-false, not-false}
 use Rattle.laws.specs.Choices.{pick}
 use Rattle.paper.specs.Numbers.{done, ignored, wrongLength, burstIsOpen, addressNotAllowed, stillCopying, wrongPhase, outOfRange, allBegun}
@@ -29,7 +28,9 @@ use Rattle.machine.specs.Control.{entered, begins, controlled, effect, heldBegi
 use Rattle.machine.specs.Data.{inRange, stored, register}
 use Rattle.machine.specs.Events as ev
 use Rattle.machine.specs.Events.{reset, mayWrite, mayFinish, rested, finishedOne, showing, keeping, landed, isWhole, delivering, ended}
-use Rattle.machine.specs.Event.{Event, Power, Copied, Write, Finish, Wake, Open, Byte, Close, next, answer}
+use Rattle.machine.specs.declared.Event.{Event}
+use Rattle.machine.specs.declared.Event.the-variants.{Power, Copied, Write, Finish, Wake, Open, Byte, Close}
+use Rattle.machine.specs.Event.{next, answer}
 use Rattle.ledger.specs.History.{Happening, began, finished, lost, opened, gave, closed}
 use Rattle.ledger.specs.Told.{beginning, addressOf, tells, told}
 use Rattle.ledger.proofs.Entries.{busy}
@@ -187,11 +188,11 @@ module _ (P : Machine → ℕ → Machine → List Happening → Type 0) (s : St
         pick (λ (g : Given). P m (g .answer) (g .machine) (cond (eqb (g .answer) done) (gave (addressOf (burst.Open first at)) (g .value) ∷ []) []))
         (ltb reg.lastRegister at) (λ _. no addressNotAllowed refl) (λ _. s .gives m first at e)
 
-    by-close : (lent : List ℕ) → let c = ev.closed m lent in P m (c .0 .answer) (c .0 .machine) (cond (eqb (c .0 .answer) done) (closed ∷ []) [])
-    by-close lent =
-        let Q : (Closing × List ℕ) → Type 0 = λ c. P m (c .0 .answer) (c .0 .machine) (cond (eqb (c .0 .answer) done) (closed ∷ []) []) in
+    by-close : (n : ℕ) → let c = ev.closing m n in P m (c .answer) (c .machine) (cond (eqb (c .answer) done) (closed ∷ []) [])
+    by-close n =
+        let Q : Closing → Type 0 = λ c. P m (c .answer) (c .machine) (cond (eqb (c .answer) done) (closed ∷ []) []) in
         pick Q (not (isOpen (m .burst))) (λ _. no wrongPhase refl) λ o.
-        pick Q (not (eqb (length lent) reg.dataLength)) (λ _. no wrongLength refl) λ _.
+        pick Q (not (eqb n reg.dataLength)) (λ _. no wrongLength refl) λ _.
         let open-is : isOpen (m .burst) ≡ true = not-false (isOpen (m .burst)) o in
         pick Q (isWhole (m .burst)) (s .ends-whole m open-is) (s .ends-partial m open-is)
 
@@ -207,4 +208,4 @@ module _ (P : Machine → ℕ → Machine → List Happening → Type 0) (s : St
         pick Q (isOpen (m .burst)) (λ _. no burstIsOpen refl) λ o.
         pick Q (not (reg.isReadable a)) (λ _. no addressNotAllowed refl) (λ _. s .opens m a o)
     walk Byte = by-byte (m .burst) refl
-    walk (Close lent) = by-close lent
+    walk (Close n) = by-close n

@@ -16,7 +16,9 @@ use Rattle.machine.specs.declared.Machine.{Machine}
 use Rattle.machine.specs.State.{runs}
 use Rattle.machine.specs.Data.{inRange, kept, laid}
 use Rattle.machine.specs.Events.{closed}
-use Rattle.machine.specs.Event.{Event, Write, Finish, Wake, Open, Byte, Close, after}
+use Rattle.machine.specs.declared.Event.{Event}
+use Rattle.machine.specs.declared.Event.the-variants.{Write, Finish, Wake, Open, Byte, Close}
+use Rattle.machine.specs.Event.{after}
 
 -- one turn: the bytes for F2 and F4, the three counts, and the bytes lent to the close
 pub record Turn : Type 0 where
@@ -109,7 +111,7 @@ pub record IsForced (t : Turn) : Type 0 where
 -- in forced mode each conversion begins by a write
 abbrev pub forcedTurns : List Turn → List Event
 forcedTurns [] = []
-forcedTurns (t ∷ ts) = byWrite t ++ measured t ++ Close (t .lent) ∷ forcedTurns ts
+forcedTurns (t ∷ ts) = byWrite t ++ measured t ++ Close (length (t .lent)) ∷ forcedTurns ts
 
 abbrev pub AllForced : List Turn → Type 0
 AllForced [] = Unit {0}
@@ -118,10 +120,10 @@ AllForced (t ∷ ts) = Fits t × IsForced t × AllForced ts
 -- in normal mode the first begins by a write and each later one by a wake
 abbrev pub wokenTurns : List Turn → List Event
 wokenTurns [] = []
-wokenTurns (t ∷ ts) = byWake ++ measured t ++ Close (t .lent) ∷ wokenTurns ts
+wokenTurns (t ∷ ts) = byWake ++ measured t ++ Close (length (t .lent)) ∷ wokenTurns ts
 
 abbrev pub normalTurns : Turn → List Turn → List Event
-normalTurns t ts = byWrite t ++ measured t ++ Close (t .lent) ∷ wokenTurns ts
+normalTurns t ts = byWrite t ++ measured t ++ Close (length (t .lent)) ∷ wokenTurns ts
 
 abbrev pub AllFit : List Turn → Type 0
 AllFit [] = Unit {0}

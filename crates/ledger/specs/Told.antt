@@ -13,7 +13,9 @@ use Rattle.machine.specs.declared.Machine.{Machine}
 use Rattle.machine.specs.State.{fresh, runs}
 use Rattle.machine.specs.Data.{stored}
 use Rattle.machine.specs.Events.{byteGiven}
-use Rattle.machine.specs.Event.{Event, Power, Copied, Write, Finish, Wake, Open, Byte, Close, next, answer}
+use Rattle.machine.specs.declared.Event.{Event}
+use Rattle.machine.specs.declared.Event.the-variants.{Power, Copied, Write, Finish, Wake, Open, Byte, Close}
+use Rattle.machine.specs.Event.{next, answer}
 use Rattle.ledger.specs.History.{Happening, began, finished, lost, opened, gave, closed}
 
 -- none ran, and now one runs: it began, with the codes that are latched now
@@ -34,7 +36,7 @@ tells m (Finish t p h) now = beginning false now ++ finished (stored (m .device)
 tells m Wake now = beginning (runs (m .device .phase)) now
 tells m (Open a) now = opened ∷ []
 tells m Byte now = gave (addressOf (m .burst)) (byteGiven m .value) ∷ []
-tells m (Close lent) now = closed ∷ []
+tells m (Close n) now = closed ∷ []
 
 -- a refused or ignored event tells nothing
 abbrev pub told : Machine → Event → List Happening

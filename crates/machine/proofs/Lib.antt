@@ -1,0 +1,2 @@
+-- Why what is said of the machine holds.
+pub mod Close
