@@ -1,8 +1,10 @@
--- The counts in the eight bytes 0xF7 to 0xFE: pressure at 0xF7, temperature at 0xFA, humidity at 0xFD, high byte first.
-use Prim.Native.Nat.{ℕ, _+_, _*_, _/_}
-use mathlib.Core.List.{List}
+-- The eight bytes 0xF7 to 0xFE and the three counts: pressure at 0xF7, temperature at 0xFA, humidity at 0xFD, high bits first.
+use Prim.Native.Nat.{ℕ, _+_, _*_, _/_, _%_}
+use mathlib.Core.List.{List, [], _∷_}
 use lib.ListN.{getD}
 use Rattle.data.specs.declared.Counts.{Counts}
+
+-- ---- taken out
 
 -- two bytes and the high nibble of a third, whose low nibble is disregarded
 abbrev pub twentyBits : ℕ → ℕ → ℕ → ℕ
@@ -18,3 +20,10 @@ countsOf bytes =
       pressure = twentyBits (getD bytes 0 0) (getD bytes 1 0) (getD bytes 2 0);
       humidity = sixteenBits (getD bytes 6 0) (getD bytes 7 0);
     }
+
+-- ---- laid out
+
+-- of temperature, pressure and humidity; the low nibbles of 0xF9 and 0xFC are 0
+abbrev pub laid : ℕ → ℕ → ℕ → List ℕ
+laid t p h =
+    p / 4096 % 256 ∷ p / 16 % 256 ∷ p % 16 * 16 ∷ t / 4096 % 256 ∷ t / 16 % 256 ∷ t % 16 * 16 ∷ h / 256 % 256 ∷ h % 256 ∷ []

@@ -1,2 +1,3 @@
--- The counts of the three channels.
+-- The data bytes and the counts of the three channels, both ways.
 pub mod Counts
+pub mod RoundTrip

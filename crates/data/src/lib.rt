@@ -1,4 +1,4 @@
-// The counts of the three channels in a logger's eight data bytes.
+// One layout of the eight data bytes, both ways: the counts of the three channels are taken out of them, and laid out in them.
 ghost use mathlib.Core.Path.{_≡_};
 ghost use Rattle.data.specs.Counts as counted;
 
@@ -34,4 +34,21 @@ fn sixteen_bits(high: u8, low: u8) -> u32
     ensures { λ r. ⌜ r ≡ counted.sixteenBits high low ⌝ }
 {
     high as u32 * 256 + low as u32
+}
+
+// The eight bytes 0xF7 to 0xFE of three counts: pressure, temperature, humidity, high bits first.
+// The low nibbles of 0xF9 and 0xFC are 0.
+pub fn lay(temperature: u32, pressure: u32, humidity: u32) -> [u8; 8]
+    ensures { λ r. ⌜ r ≡ counted.laid temperature pressure humidity ⌝ }
+{
+    [
+        (pressure / 4096 % 256) as u8,
+        (pressure / 16 % 256) as u8,
+        (pressure % 16 * 16) as u8,
+        (temperature / 4096 % 256) as u8,
+        (temperature / 16 % 256) as u8,
+        (temperature % 16 * 16) as u8,
+        (humidity / 256 % 256) as u8,
+        (humidity % 256) as u8,
+    ]
 }

@@ -7,6 +7,7 @@ use mathlib.Core.List.{List, [], _∷_, _++_}
 use lib.ListN.{length}
 use Rattle.paper.specs.Numbers.{done}
 use Rattle.paper.specs.Registers as reg
+use Rattle.data.specs.Counts.{laid}
 use Rattle.machine.specs.declared.Phase.the-variants.{Sleep, Standby}
 use Rattle.machine.specs.declared.Burst.the-variants.{Closed}
 use Rattle.machine.specs.declared.Codes.{Codes}
@@ -14,7 +15,7 @@ use Rattle.machine.specs.declared.Closing.{Closing}
 use Rattle.machine.specs.declared.Ledger.{Ledger}
 use Rattle.machine.specs.declared.Machine.{Machine}
 use Rattle.machine.specs.State.{runs}
-use Rattle.machine.specs.Data.{inRange, kept, laid}
+use Rattle.machine.specs.Data.{inRange, kept}
 use Rattle.machine.specs.Events.{closed}
 use Rattle.machine.specs.declared.Event.{Event}
 use Rattle.machine.specs.declared.Event.the-variants.{Write, Finish, Wake, Open, Byte, Close}

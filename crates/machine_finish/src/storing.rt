@@ -17,28 +17,12 @@ fn keep(code: u8, count: u32, skipped: u32) -> u32
     if code == 0 { skipped } else { count }
 }
 
-// The eight data bytes of three counts.
-fn lay(temperature: u32, pressure: u32, humidity: u32) -> [u8; 8]
-    ensures { λ r. ⌜ r ≡ bytes.laid temperature pressure humidity ⌝ }
-{
-    [
-        (pressure / 4096 % 256) as u8,
-        (pressure / 16 % 256) as u8,
-        (pressure % 16 * 16) as u8,
-        (temperature / 4096 % 256) as u8,
-        (temperature / 16 % 256) as u8,
-        (temperature % 16 * 16) as u8,
-        (humidity / 256 % 256) as u8,
-        (humidity % 256) as u8,
-    ]
-}
-
 // The bytes that the device stores of three counts.
 pub fn store(d: Device, temperature: u32, pressure: u32, humidity: u32) -> [u8; 8]
     ensures { λ r. ⌜ r ≡ bytes.stored d temperature pressure humidity ⌝ }
 {
     let codes = d.codes;
-    lay(
+    data::lay(
         keep(codes.temperature, temperature, paper::SKIPPED_20),
         keep(codes.pressure, pressure, paper::SKIPPED_20),
         keep(codes.humidity, humidity, paper::SKIPPED_16),

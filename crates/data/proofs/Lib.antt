@@ -1,0 +1,2 @@
+-- Why the layout goes both ways.
+pub mod RoundTrip
