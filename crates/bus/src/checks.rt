@@ -62,7 +62,7 @@ pub(crate) fn read_number(device: Device, register: u8, needed: usize, room: usi
     if !addressing::is_device(device) {
         return paper::ADDRESS_NOT_ALLOWED;
     }
-    if register < paper::FIRST_REGISTER {
+    if !paper::is_readable(register) {
         return paper::ADDRESS_NOT_ALLOWED;
     }
     if room < needed {

@@ -1,10 +1,11 @@
 -- `onegrish::onegrish_words` meets its contract: what the calibration answers is handed over. Assumes nothing.
 use borrow.Author.Needs.{needs}
+use Rattle.calibration.proofs.OneAnswer.{one-calibration}
 use Rattle.onegrish.proofs.onegrish_words.Statement.{statement}
 use Rattle.onegrish.proofs.onegrish_words.Tie as tie
 
 returns : tie.Need-returns
-returns c = rw (← c .before .before .before .calibrate .ensures) (c .before .hand-words .ensures)
+returns c = rw (← one-calibration _ _ (c .before .before .before .calibrate .ensures)) (c .before .hand-words .ensures)
 
 pub onegrish-words-spec : {M : Type 1} → statement M
 onegrish-words-spec =

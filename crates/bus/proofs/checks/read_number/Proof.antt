@@ -22,4 +22,4 @@ unfolding readNumber
 returns-4 c = search cases
 
 pub read-number-spec : {M : Type 1} → statement M
-read-number-spec = tie.close (tie.spec (λ c κs. search needs) returns returns-2 returns-3 returns-4)
+read-number-spec = tie.close (tie.spec (λ c κs. search needs) returns (λ c κs. search needs) returns-2 returns-3 returns-4)
