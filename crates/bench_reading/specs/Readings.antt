@@ -20,10 +20,8 @@ use Rattle.calibration.specs.declared.Calibration.the-variants as blocks
 use Rattle.calibration.specs.Calibration.{calibrated}
 use Rattle.formula.specs.declared.TemperatureAnswer.{TemperatureAnswer}
 use Rattle.formula.specs.declared.TemperatureAnswer.the-variants as heat
-use Rattle.formula.specs.declared.PressureAnswer.{PressureAnswer}
-use Rattle.formula.specs.declared.PressureAnswer.the-variants as press
-use Rattle.formula.specs.declared.HumidityAnswer.{HumidityAnswer}
-use Rattle.formula.specs.declared.HumidityAnswer.the-variants as damp
+use Rattle.formula.specs.declared.ChannelAnswer.{ChannelAnswer}
+use Rattle.formula.specs.declared.ChannelAnswer.the-variants as channel
 use Rattle.compensation.specs.declared.Answer.{Answer}
 use Rattle.compensation.specs.declared.Answer.the-variants as reading
 use Rattle.compensation.specs.Compensation.{compensated}
@@ -72,15 +70,15 @@ cal line p = calibrate (both (bytesAt 1 line .0) (bytesAt 2 line .0)) (bytesAt 1
 -- the fine temperature goes with the temperature
 abbrev pub temperatureTold : TemperatureAnswer → Page → Page
 temperatureTold (heat.Known value fine) p = p ▹ letters " t=" ▹ signed value ▹ letters " fine=" ▹ signed fine
-temperatureTold (heat.Missing number) p = p ▹ letters " t!" ▹ decimal number
+temperatureTold (heat.Missing m) p = p ▹ letters " t!" ▹ decimal (m .number)
 
-abbrev pub pressureTold : PressureAnswer → Page → Page
-pressureTold (press.Known value) p = p ▹ letters " p=" ▹ decimal value
-pressureTold (press.Missing number) p = p ▹ letters " p!" ▹ decimal number
+abbrev pub pressureTold : ChannelAnswer → Page → Page
+pressureTold (channel.Known value) p = p ▹ letters " p=" ▹ decimal value
+pressureTold (channel.Missing m) p = p ▹ letters " p!" ▹ decimal (m .number)
 
-abbrev pub humidityTold : HumidityAnswer → Page → Page
-humidityTold (damp.Known value) p = p ▹ letters " h=" ▹ decimal value
-humidityTold (damp.Missing number) p = p ▹ letters " h!" ▹ decimal number
+abbrev pub humidityTold : ChannelAnswer → Page → Page
+humidityTold (channel.Known value) p = p ▹ letters " h=" ▹ decimal value
+humidityTold (channel.Missing m) p = p ▹ letters " h!" ▹ decimal (m .number)
 
 abbrev pub readingTold : Answer → Page → Page
 readingTold (reading.Refused number) p = p ▹ decimal number

@@ -9,8 +9,7 @@ use calibration::HumidityWords;
 use calibration::PressureWords;
 use calibration::TemperatureWords;
 use compensation::Answer;
-use formula::HumidityAnswer;
-use formula::PressureAnswer;
+use formula::ChannelAnswer;
 use formula::TemperatureAnswer;
 
 // cal B1 B2
@@ -200,26 +199,41 @@ fn tell_temperature(channel: TemperatureAnswer, out: &mut [u8], at: usize) -> us
             let next = bench_phrases::signed(b" t=", value, out, at);
             bench_phrases::signed(b" fine=", fine, out, next)
         }
-        TemperatureAnswer::Missing(number) => bench_phrases::named(b" t!", number as u64, out, at),
+        TemperatureAnswer::Missing(missing) => bench_phrases::named(
+            b" t!",
+            missing.number as u64,
+            out,
+            at,
+        ),
     }
 }
 
 // Writes a pressure, or the number in its place.
-fn tell_pressure(channel: PressureAnswer, out: &mut [u8], at: usize) -> usize
+fn tell_pressure(channel: ChannelAnswer, out: &mut [u8], at: usize) -> usize
     ensures { λ r. ⌜ (now (out .exit), r) ≡ readings.pressureTold channel (now (out .entry), at) ⌝ }
 {
     match channel {
-        PressureAnswer::Known(value) => bench_phrases::named(b" p=", value as u64, out, at),
-        PressureAnswer::Missing(number) => bench_phrases::named(b" p!", number as u64, out, at),
+        ChannelAnswer::Known(value) => bench_phrases::named(b" p=", value as u64, out, at),
+        ChannelAnswer::Missing(missing) => bench_phrases::named(
+            b" p!",
+            missing.number as u64,
+            out,
+            at,
+        ),
     }
 }
 
 // Writes a humidity, or the number in its place.
-fn tell_humidity(channel: HumidityAnswer, out: &mut [u8], at: usize) -> usize
+fn tell_humidity(channel: ChannelAnswer, out: &mut [u8], at: usize) -> usize
     ensures { λ r. ⌜ (now (out .exit), r) ≡ readings.humidityTold channel (now (out .entry), at) ⌝ }
 {
     match channel {
-        HumidityAnswer::Known(value) => bench_phrases::named(b" h=", value as u64, out, at),
-        HumidityAnswer::Missing(number) => bench_phrases::named(b" h!", number as u64, out, at),
+        ChannelAnswer::Known(value) => bench_phrases::named(b" h=", value as u64, out, at),
+        ChannelAnswer::Missing(missing) => bench_phrases::named(
+            b" h!",
+            missing.number as u64,
+            out,
+            at,
+        ),
     }
 }

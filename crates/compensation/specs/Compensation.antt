@@ -15,10 +15,9 @@ use Rattle.calibration.specs.declared.Calibration.the-variants as blocks
 use Rattle.calibration.specs.Calibration.{calibrated}
 use Rattle.formula.specs.declared.TemperatureAnswer.{TemperatureAnswer}
 use Rattle.formula.specs.declared.TemperatureAnswer.the-variants as heat
-use Rattle.formula.specs.declared.PressureAnswer.{PressureAnswer}
-use Rattle.formula.specs.declared.PressureAnswer.the-variants as press
-use Rattle.formula.specs.declared.HumidityAnswer.{HumidityAnswer}
-use Rattle.formula.specs.declared.HumidityAnswer.the-variants as damp
+use Rattle.formula.specs.declared.ChannelAnswer.{ChannelAnswer}
+use Rattle.formula.specs.declared.ChannelAnswer.the-variants as channel
+use Rattle.formula.specs.Answers.{missing}
 use Rattle.formula_temperature.specs.Temperature.{temperatureOf}
 use Rattle.formula_pressure.specs.Pressure.{pressureOf}
 use Rattle.formula_humidity.specs.Humidity.{humidityOf}
@@ -31,22 +30,22 @@ use Rattle.data.specs.Counts.{countsOf}
 -- ---- the channels: code 0 means skipped
 
 abbrev pub temperatureChannel : ℕ → TemperatureWords → ℕ → TemperatureAnswer
-temperatureChannel code words count = cond (eqb code 0) (heat.Missing no.skipped) (temperatureOf words count)
+temperatureChannel code words count = cond (eqb code 0) (heat.Missing (missing no.skipped)) (temperatureOf words count)
 
 -- pressure and humidity want the fine temperature
-abbrev pub pressureAt : TemperatureAnswer → PressureWords → ℕ → PressureAnswer
-pressureAt (heat.Missing n) words count = press.Missing no.noTemperature
+abbrev pub pressureAt : TemperatureAnswer → PressureWords → ℕ → ChannelAnswer
+pressureAt (heat.Missing m) words count = channel.Missing (missing no.noTemperature)
 pressureAt (heat.Known value fine) words count = pressureOf words fine count
 
-abbrev pub pressureChannel : ℕ → TemperatureAnswer → PressureWords → ℕ → PressureAnswer
-pressureChannel code t words count = cond (eqb code 0) (press.Missing no.skipped) (pressureAt t words count)
+abbrev pub pressureChannel : ℕ → TemperatureAnswer → PressureWords → ℕ → ChannelAnswer
+pressureChannel code t words count = cond (eqb code 0) (channel.Missing (missing no.skipped)) (pressureAt t words count)
 
-abbrev pub humidityAt : TemperatureAnswer → HumidityWords → ℕ → HumidityAnswer
-humidityAt (heat.Missing n) words count = damp.Missing no.noTemperature
+abbrev pub humidityAt : TemperatureAnswer → HumidityWords → ℕ → ChannelAnswer
+humidityAt (heat.Missing m) words count = channel.Missing (missing no.noTemperature)
 humidityAt (heat.Known value fine) words count = humidityOf words fine count
 
-abbrev pub humidityChannel : ℕ → TemperatureAnswer → HumidityWords → ℕ → HumidityAnswer
-humidityChannel code t words count = cond (eqb code 0) (damp.Missing no.skipped) (humidityAt t words count)
+abbrev pub humidityChannel : ℕ → TemperatureAnswer → HumidityWords → ℕ → ChannelAnswer
+humidityChannel code t words count = cond (eqb code 0) (channel.Missing (missing no.skipped)) (humidityAt t words count)
 
 abbrev pub reading : Words → Counts → ℕ → ℕ → ℕ → Reading
 reading words counts t p h =

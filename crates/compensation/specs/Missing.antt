@@ -6,9 +6,10 @@ use borrow.Author.Tests.{ne-eqb}
 use Rattle.paper.specs.Numbers as no
 use Rattle.paper.specs.Registers as reg
 use Rattle.calibration.specs.declared.Words.{Words}
+use Rattle.formula.specs.declared.Missing.{Missing}
 use Rattle.formula.specs.declared.TemperatureAnswer.the-variants as heat
-use Rattle.formula.specs.declared.PressureAnswer.the-variants as press
-use Rattle.formula.specs.declared.HumidityAnswer.the-variants as damp
+use Rattle.formula.specs.declared.ChannelAnswer.the-variants as channel
+use Rattle.formula.specs.Answers.{missing}
 use Rattle.formula_temperature.specs.Temperature.{temperatureOf}
 use Rattle.formula_pressure.specs.Pressure.{pressureOf}
 use Rattle.formula_humidity.specs.Humidity.{humidityOf}
@@ -18,13 +19,13 @@ use Rattle.data.specs.Counts.{countsOf}
 
 -- ---- a skipped channel is 10, whatever the bytes
 
-pub skipped-temperature : (words : Words) (counts : Counts) (p h : ℕ) → reading words counts 0 p h .temperature ≡ heat.Missing no.skipped
+pub skipped-temperature : (words : Words) (counts : Counts) (p h : ℕ) → reading words counts 0 p h .temperature ≡ heat.Missing (missing no.skipped)
 skipped-temperature words counts p h = refl
 
-pub skipped-pressure : (words : Words) (counts : Counts) (t h : ℕ) → reading words counts t 0 h .pressure ≡ press.Missing no.skipped
+pub skipped-pressure : (words : Words) (counts : Counts) (t h : ℕ) → reading words counts t 0 h .pressure ≡ channel.Missing (missing no.skipped)
 skipped-pressure words counts t h = refl
 
-pub skipped-humidity : (words : Words) (counts : Counts) (t p : ℕ) → reading words counts t p 0 .humidity ≡ damp.Missing no.skipped
+pub skipped-humidity : (words : Words) (counts : Counts) (t p : ℕ) → reading words counts t p 0 .humidity ≡ channel.Missing (missing no.skipped)
 skipped-humidity words counts t p = refl
 
 -- ---- in an enabled channel every count is a count like any other
@@ -48,9 +49,9 @@ enabled-at-80000 words t p h on = enabled-temperature words (countsOf reg.freshB
 
 -- ---- where temperature is missing, every other enabled channel is 11
 
-module _ (words : Words) (counts : Counts) (t p h : ℕ) {n : ℕ} (missing : reading words counts t p h .temperature ≡ heat.Missing n) where
-  pub pressure-without : (p ≡ 0 → ⊥) → reading words counts t p h .pressure ≡ press.Missing no.noTemperature
-  pressure-without on = rw (ne-eqb p 0 on, missing)
+module _ (words : Words) (counts : Counts) (t p h : ℕ) {m : Missing} (without : reading words counts t p h .temperature ≡ heat.Missing m) where
+  pub pressure-without : (p ≡ 0 → ⊥) → reading words counts t p h .pressure ≡ channel.Missing (missing no.noTemperature)
+  pressure-without on = rw (ne-eqb p 0 on, without)
 
-  pub humidity-without : (h ≡ 0 → ⊥) → reading words counts t p h .humidity ≡ damp.Missing no.noTemperature
-  humidity-without on = rw (ne-eqb h 0 on, missing)
+  pub humidity-without : (h ≡ 0 → ⊥) → reading words counts t p h .humidity ≡ channel.Missing (missing no.noTemperature)
+  humidity-without on = rw (ne-eqb h 0 on, without)

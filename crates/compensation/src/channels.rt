@@ -7,16 +7,26 @@ use calibration::PressureWords;
 use calibration::TemperatureWords;
 use calibration::Words;
 use data::Counts;
-use formula::HumidityAnswer;
-use formula::PressureAnswer;
+use formula::ChannelAnswer;
+use formula::Missing;
 use formula::TemperatureAnswer;
+
+// In the place of a channel that its code skips.
+const SKIPPED: Missing = Missing {
+    number: paper::SKIPPED,
+};
+
+// In the place of an enabled channel that has no temperature to be compensated with.
+const NO_TEMPERATURE: Missing = Missing {
+    number: paper::NO_TEMPERATURE,
+};
 
 // The temperature's channel: skipped by code 0, and else the formula's answer.
 fn temperature(t: u8, words: TemperatureWords, count: u32) -> TemperatureAnswer
     ensures { λ r. ⌜ r ≡ comp.temperatureChannel t words count ⌝ }
 {
     if t == 0 {
-        TemperatureAnswer::Missing(paper::SKIPPED)
+        TemperatureAnswer::Missing(SKIPPED)
     } else {
         formula_temperature::temperature(words, count)
     }
@@ -24,11 +34,11 @@ fn temperature(t: u8, words: TemperatureWords, count: u32) -> TemperatureAnswer
 
 // The pressure of an enabled channel.
 // It wants the fine temperature.
-fn pressure_at(heat: TemperatureAnswer, words: PressureWords, count: u32) -> PressureAnswer
+fn pressure_at(heat: TemperatureAnswer, words: PressureWords, count: u32) -> ChannelAnswer
     ensures { λ r. ⌜ r ≡ comp.pressureAt heat words count ⌝ }
 {
     match heat {
-        TemperatureAnswer::Missing(_) => PressureAnswer::Missing(paper::NO_TEMPERATURE),
+        TemperatureAnswer::Missing(_) => ChannelAnswer::Missing(NO_TEMPERATURE),
         TemperatureAnswer::Known { value: _, fine } => formula_pressure::pressure(
             words,
             fine,
@@ -38,11 +48,11 @@ fn pressure_at(heat: TemperatureAnswer, words: PressureWords, count: u32) -> Pre
 }
 
 // The pressure's channel: skipped by code 0.
-fn pressure(p: u8, heat: TemperatureAnswer, words: PressureWords, count: u32) -> PressureAnswer
+fn pressure(p: u8, heat: TemperatureAnswer, words: PressureWords, count: u32) -> ChannelAnswer
     ensures { λ r. ⌜ r ≡ comp.pressureChannel p heat words count ⌝ }
 {
     if p == 0 {
-        PressureAnswer::Missing(paper::SKIPPED)
+        ChannelAnswer::Missing(SKIPPED)
     } else {
         pressure_at(heat, words, count)
     }
@@ -50,11 +60,11 @@ fn pressure(p: u8, heat: TemperatureAnswer, words: PressureWords, count: u32) ->
 
 // The humidity of an enabled channel.
 // It wants the fine temperature.
-fn humidity_at(heat: TemperatureAnswer, words: HumidityWords, count: u32) -> HumidityAnswer
+fn humidity_at(heat: TemperatureAnswer, words: HumidityWords, count: u32) -> ChannelAnswer
     ensures { λ r. ⌜ r ≡ comp.humidityAt heat words count ⌝ }
 {
     match heat {
-        TemperatureAnswer::Missing(_) => HumidityAnswer::Missing(paper::NO_TEMPERATURE),
+        TemperatureAnswer::Missing(_) => ChannelAnswer::Missing(NO_TEMPERATURE),
         TemperatureAnswer::Known { value: _, fine } => formula_humidity::humidity(
             words,
             fine,
@@ -64,11 +74,11 @@ fn humidity_at(heat: TemperatureAnswer, words: HumidityWords, count: u32) -> Hum
 }
 
 // The humidity's channel: skipped by code 0.
-fn humidity(h: u8, heat: TemperatureAnswer, words: HumidityWords, count: u32) -> HumidityAnswer
+fn humidity(h: u8, heat: TemperatureAnswer, words: HumidityWords, count: u32) -> ChannelAnswer
     ensures { λ r. ⌜ r ≡ comp.humidityChannel h heat words count ⌝ }
 {
     if h == 0 {
-        HumidityAnswer::Missing(paper::SKIPPED)
+        ChannelAnswer::Missing(SKIPPED)
     } else {
         humidity_at(heat, words, count)
     }

@@ -6,15 +6,14 @@ mod channels;
 
 use calibration::Calibration;
 use calibration::Words;
-use formula::HumidityAnswer;
-use formula::PressureAnswer;
+use formula::ChannelAnswer;
 use formula::TemperatureAnswer;
 
 // One reading: each channel has its value, or the number in its place.
 pub struct Reading {
     pub temperature: TemperatureAnswer,
-    pub pressure: PressureAnswer,
-    pub humidity: HumidityAnswer,
+    pub pressure: ChannelAnswer,
+    pub humidity: ChannelAnswer,
 }
 
 // A reading, or the number that refuses it whole.

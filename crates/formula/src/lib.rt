@@ -5,22 +5,21 @@ ghost use lib.IntN.{pos};
 ghost use Rattle.formula.specs.Plain.{isUsual};
 use steps::Num;
 
-// A temperature in hundredths of a degree with the fine temperature, or the number of what took their place.
+// What stands in the place of a channel that has no value: the paper's number, 10 to 14.
+pub struct Missing {
+    pub number: u8,
+}
+
+// A temperature in hundredths of a degree with the fine temperature, or what stands in their place.
 pub enum TemperatureAnswer {
     Known { value: i32, fine: i32 },
-    Missing(u8),
+    Missing(Missing),
 }
 
-// A pressure in Pa times 256, or the number of what took its place.
-pub enum PressureAnswer {
+// A pressure in Pa times 256 or a humidity in %RH times 1024, or what stands in its place.
+pub enum ChannelAnswer {
     Known(u32),
-    Missing(u8),
-}
-
-// A humidity in %RH times 1024, or the number of what took its place.
-pub enum HumidityAnswer {
-    Known(u32),
-    Missing(u8),
+    Missing(Missing),
 }
 
 // A count, or a word without a sign, as the number that a formula is given.

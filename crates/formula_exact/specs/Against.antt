@@ -15,8 +15,8 @@ use Rattle.calibration.specs.declared.TemperatureWords.{TemperatureWords}
 use Rattle.calibration.specs.declared.PressureWords.{PressureWords}
 use Rattle.calibration.specs.declared.HumidityWords.{HumidityWords}
 use Rattle.formula.specs.declared.TemperatureAnswer.the-variants.{Known}
-use Rattle.formula.specs.declared.PressureAnswer.the-variants as pressure
-use Rattle.formula.specs.declared.HumidityAnswer.the-variants as humidity
+use Rattle.formula.specs.declared.ChannelAnswer.the-variants as channel
+use Rattle.formula.specs.Answers.{answered}
 use Rattle.formula_temperature.specs.Temperature as t
 use Rattle.formula_pressure.specs.Pressure as p
 use Rattle.formula_humidity.specs.Humidity as h
@@ -87,7 +87,7 @@ module _ (words : TemperatureWords) (count : ℕ) where
 -- ---- pressure
 
 -- an answer that is known is a value without its sign
-pressure-known : (P : Type 0) (a : Num) (value : ℕ) → p.answered a ≡ pressure.Known value → ((z : ℤ) → a ≡ Value z → natAbs z ≡ value → P) → P
+pressure-known : (P : Type 0) (a : Num) (value : ℕ) → answered a ≡ channel.Known value → ((z : ℤ) → a ≡ Value z → natAbs z ≡ value → P) → P
 pressure-known P (Value z) value e k = k z refl (cc)
 pressure-known P (Broke n) value e k = k (pos 0) (cc) (cc)
 
@@ -112,14 +112,14 @@ module _ (words : PressureWords) (fine : ℤ) (count : ℕ) where
   pressure-listed : allMet Bits64 (needs (p.pressureFormula words fine count)) ≡ (allFit Bits64 (pressureSteps words fine count) && (isNonzero (p.plainDivisor words fine) && (isNonzero (p.plainDivisor words fine) && (p.isPressure (p.plainPressure words fine count) && true))))
   pressure-listed = met-is Bits64 (needs (p.pressureFormula words fine count)) ∙ rw (pressure-steps, pressure-tests)
 
-  pressure-is : p.pressureOf words fine count ≡ p.answered (run Bits64 (p.pressureFormula words fine count))
+  pressure-is : p.pressureOf words fine count ≡ answered (run Bits64 (p.pressureFormula words fine count))
   unfolding p.pressureOf
   pressure-is = refl
 
-  pub pressure-verdict : p.pressureOf words fine count ≡ p.answered (verdict Bits64 (needs (p.pressureFormula words fine count)) (p.plainPressure words fine count))
-  pressure-verdict = pressure-is ∙ ap p.answered (exact Bits64 (p.pressureFormula words fine count) ∙ ap (verdict Bits64 (needs (p.pressureFormula words fine count))) pressure-plain)
+  pub pressure-verdict : p.pressureOf words fine count ≡ answered (verdict Bits64 (needs (p.pressureFormula words fine count)) (p.plainPressure words fine count))
+  pressure-verdict = pressure-is ∙ ap answered (exact Bits64 (p.pressureFormula words fine count) ∙ ap (verdict Bits64 (needs (p.pressureFormula words fine count))) pressure-plain)
 
-  pub pressure-only : (value : ℕ) → p.pressureOf words fine count ≡ pressure.Known value → (pos value ≡ p.plainPressure words fine count) × (allFit Bits64 (pressureSteps words fine count) ≡ true) × (isNonzero (p.plainDivisor words fine) ≡ true) × (p.isPressure (p.plainPressure words fine count) ≡ true)
+  pub pressure-only : (value : ℕ) → p.pressureOf words fine count ≡ channel.Known value → (pos value ≡ p.plainPressure words fine count) × (allFit Bits64 (pressureSteps words fine count) ≡ true) × (isNonzero (p.plainDivisor words fine) ≡ true) × (p.isPressure (p.plainPressure words fine count) ≡ true)
   pressure-only value e = pressure-known _ (run Bits64 (p.pressureFormula words fine count)) value (sym pressure-is ∙ e) parts
     where
       parts : (z : ℤ) → run Bits64 (p.pressureFormula words fine count) ≡ Value z → natAbs z ≡ value → (pos value ≡ p.plainPressure words fine count) × (allFit Bits64 (pressureSteps words fine count) ≡ true) × (isNonzero (p.plainDivisor words fine) ≡ true) × (p.isPressure (p.plainPressure words fine count) ≡ true)
@@ -132,12 +132,12 @@ module _ (words : PressureWords) (fine : ℤ) (count : ℕ) where
           let r = and-parts (p.isPressure (p.plainPressure words fine count)) true (d .1) in
           (ap pos (sym k ∙ ap natAbs same) ∙ in-range-is (p.plainPressure words fine count) (r .0), a .0, b .0, r .0)
 
-  pub pressure-where : allFit Bits64 (pressureSteps words fine count) ≡ true → isNonzero (p.plainDivisor words fine) ≡ true → p.isPressure (p.plainPressure words fine count) ≡ true → p.pressureOf words fine count ≡ pressure.Known (natAbs (p.plainPressure words fine count))
-  pressure-where a b d = pressure-is ∙ ap p.answered (accepted Bits64 (p.pressureFormula words fine count) (pressure-listed ∙ rw (a, b, d)) ∙ ap Value pressure-plain)
+  pub pressure-where : allFit Bits64 (pressureSteps words fine count) ≡ true → isNonzero (p.plainDivisor words fine) ≡ true → p.isPressure (p.plainPressure words fine count) ≡ true → p.pressureOf words fine count ≡ channel.Known (natAbs (p.plainPressure words fine count))
+  pressure-where a b d = pressure-is ∙ ap answered (accepted Bits64 (p.pressureFormula words fine count) (pressure-listed ∙ rw (a, b, d)) ∙ ap Value pressure-plain)
 
 -- ---- humidity
 
-humidity-known : (P : Type 0) (a : Num) (value : ℕ) → h.answered a ≡ humidity.Known value → ((z : ℤ) → a ≡ Value z → natAbs z ≡ value → P) → P
+humidity-known : (P : Type 0) (a : Num) (value : ℕ) → answered a ≡ channel.Known value → ((z : ℤ) → a ≡ Value z → natAbs z ≡ value → P) → P
 humidity-known P (Value z) value e k = k z refl (cc)
 humidity-known P (Broke n) value e k = k (pos 0) (cc) (cc)
 
@@ -159,12 +159,12 @@ module _ (words : HumidityWords) (fine : ℤ) (count : ℕ) where
   unfolding allMet allFit needs plain h.differenceLine h.levelFactor h.bendFactor h.gainFactor h.productLine h.correctionLine h.humidityLines h.lastLine h.humidityFormula humiditySteps
   humidity-listed = refl
 
-  humidity-is : h.humidityOf words fine count ≡ h.answered (run Bits32 (h.humidityFormula words fine count))
+  humidity-is : h.humidityOf words fine count ≡ answered (run Bits32 (h.humidityFormula words fine count))
   unfolding h.humidityOf
   humidity-is = refl
 
-  pub humidity-verdict : h.humidityOf words fine count ≡ h.answered (verdict Bits32 (needs (h.humidityFormula words fine count)) (h.plainHumidity words fine count))
-  humidity-verdict = humidity-is ∙ ap h.answered (exact Bits32 (h.humidityFormula words fine count) ∙ ap (verdict Bits32 (needs (h.humidityFormula words fine count))) humidity-plain)
+  pub humidity-verdict : h.humidityOf words fine count ≡ answered (verdict Bits32 (needs (h.humidityFormula words fine count)) (h.plainHumidity words fine count))
+  humidity-verdict = humidity-is ∙ ap answered (exact Bits32 (h.humidityFormula words fine count) ∙ ap (verdict Bits32 (needs (h.humidityFormula words fine count))) humidity-plain)
 
   plain-clamped : plain (h.humidityFormula words fine count) ≡ h.clamped (plain (h.humidityLines words fine count)) >>ℤ 12
   unfolding plain h.lastLine h.humidityFormula
@@ -176,7 +176,7 @@ module _ (words : HumidityWords) (fine : ℤ) (count : ℕ) where
   pub plain-le : natAbs (h.plainHumidity words fine count) ≤ 102400
   plain-le = rw (← humidity-plain, plain-clamped) (clamped-le (plain (h.humidityLines words fine count)))
 
-  pub humidity-only : (value : ℕ) → h.humidityOf words fine count ≡ humidity.Known value → (pos value ≡ h.plainHumidity words fine count) × (allFit Bits32 (humiditySteps words fine count) ≡ true)
+  pub humidity-only : (value : ℕ) → h.humidityOf words fine count ≡ channel.Known value → (pos value ≡ h.plainHumidity words fine count) × (allFit Bits32 (humiditySteps words fine count) ≡ true)
   humidity-only value e = humidity-known _ (run Bits32 (h.humidityFormula words fine count)) value (sym humidity-is ∙ e) parts
     where
       parts : (z : ℤ) → run Bits32 (h.humidityFormula words fine count) ≡ Value z → natAbs z ≡ value → (pos value ≡ h.plainHumidity words fine count) × (allFit Bits32 (humiditySteps words fine count) ≡ true)
@@ -184,5 +184,5 @@ module _ (words : HumidityWords) (fine : ℤ) (count : ℕ) where
           let q = only-then Bits32 (h.humidityFormula words fine count) z l in
           (ap pos (sym k ∙ ap natAbs (q .1 ∙ humidity-plain)) ∙ plain-is, sym humidity-listed ∙ q .0)
 
-  pub humidity-where : allFit Bits32 (humiditySteps words fine count) ≡ true → h.humidityOf words fine count ≡ humidity.Known (natAbs (h.plainHumidity words fine count))
-  humidity-where a = humidity-is ∙ ap h.answered (accepted Bits32 (h.humidityFormula words fine count) (humidity-listed ∙ a) ∙ ap Value humidity-plain)
+  pub humidity-where : allFit Bits32 (humiditySteps words fine count) ≡ true → h.humidityOf words fine count ≡ channel.Known (natAbs (h.plainHumidity words fine count))
+  humidity-where a = humidity-is ∙ ap answered (accepted Bits32 (h.humidityFormula words fine count) (humidity-listed ∙ a) ∙ ap Value humidity-plain)

@@ -12,13 +12,11 @@ use Rattle.calibration.specs.declared.TemperatureWords.{TemperatureWords}
 use Rattle.calibration.specs.declared.PressureWords.{PressureWords}
 use Rattle.calibration.specs.declared.HumidityWords.{HumidityWords}
 use Rattle.formula.specs.declared.TemperatureAnswer.the-variants as temperature
-use Rattle.formula.specs.declared.PressureAnswer.the-variants as pressure
-use Rattle.formula.specs.declared.HumidityAnswer.the-variants as humidity
+use Rattle.formula.specs.declared.ChannelAnswer.the-variants as channel
+use Rattle.formula.specs.Answers.{answered}
 use Rattle.formula_temperature.specs.Temperature.{temperatureFormula, withFine, temperatureOf, plainFine, plainTemperature}
 use Rattle.formula_pressure.specs.Pressure.{pressureFormula, pressureOf, isPressure, plainDivisor, plainPressure}
 use Rattle.formula_humidity.specs.Humidity.{humidityFormula, humidityOf, plainHumidity}
-use Rattle.formula_pressure.specs.Pressure as p
-use Rattle.formula_humidity.specs.Humidity as h
 use Rattle.formula_exact.specs.Listed.{temperatureSteps, pressureSteps, humiditySteps}
 use Rattle.formula_exact.specs.Against.{temperature-only, temperature-where, temperature-verdict, pressure-only, pressure-where, pressure-verdict, humidity-only, humidity-where, humidity-verdict, plain-le}
 
@@ -50,13 +48,13 @@ pub record PressureExact (words : PressureWords) (fine : ℤ) (count value : ℕ
   pub divisor-not-zero : isNonzero (plainDivisor words fine) ≡ true
   pub in-range : isPressure (plainPressure words fine count) ≡ true
 
-pub pressure-exact : (words : PressureWords) (fine : ℤ) (count value : ℕ) → pressureOf words fine count ≡ pressure.Known value ⇔ PressureExact words fine count value
+pub pressure-exact : (words : PressureWords) (fine : ℤ) (count value : ℕ) → pressureOf words fine count ≡ channel.Known value ⇔ PressureExact words fine count value
 pressure-exact words fine count value = (
   λ e. let q = pressure-only words fine count value e in record { value-is = q .0; steps-fit = q .1; divisor-not-zero = q .2; in-range = q .3 },
-  λ x. pressure-where words fine count (x .steps-fit) (x .divisor-not-zero) (x .in-range) ∙ ap pressure.Known (ap natAbs (sym (x .value-is))),
+  λ x. pressure-where words fine count (x .steps-fit) (x .divisor-not-zero) (x .in-range) ∙ ap channel.Known (ap natAbs (sym (x .value-is))),
 )
 
-pub pressure-first : (words : PressureWords) (fine : ℤ) (count : ℕ) → pressureOf words fine count ≡ p.answered (verdict Bits64 (needs (pressureFormula words fine count)) (plainPressure words fine count))
+pub pressure-first : (words : PressureWords) (fine : ℤ) (count : ℕ) → pressureOf words fine count ≡ answered (verdict Bits64 (needs (pressureFormula words fine count)) (plainPressure words fine count))
 pressure-first = pressure-verdict
 
 -- ---- humidity
@@ -65,14 +63,14 @@ pub record HumidityExact (words : HumidityWords) (fine : ℤ) (count value : ℕ
   pub value-is : pos value ≡ plainHumidity words fine count
   pub steps-fit : allFit Bits32 (humiditySteps words fine count) ≡ true
 
-pub humidity-exact : (words : HumidityWords) (fine : ℤ) (count value : ℕ) → humidityOf words fine count ≡ humidity.Known value ⇔ HumidityExact words fine count value
+pub humidity-exact : (words : HumidityWords) (fine : ℤ) (count value : ℕ) → humidityOf words fine count ≡ channel.Known value ⇔ HumidityExact words fine count value
 humidity-exact words fine count value = (
   λ e. let q = humidity-only words fine count value e in record { value-is = q .0; steps-fit = q .1 },
-  λ x. humidity-where words fine count (x .steps-fit) ∙ ap humidity.Known (ap natAbs (sym (x .value-is))),
+  λ x. humidity-where words fine count (x .steps-fit) ∙ ap channel.Known (ap natAbs (sym (x .value-is))),
 )
 
-pub humidity-first : (words : HumidityWords) (fine : ℤ) (count : ℕ) → humidityOf words fine count ≡ h.answered (verdict Bits32 (needs (humidityFormula words fine count)) (plainHumidity words fine count))
+pub humidity-first : (words : HumidityWords) (fine : ℤ) (count : ℕ) → humidityOf words fine count ≡ answered (verdict Bits32 (needs (humidityFormula words fine count)) (plainHumidity words fine count))
 humidity-first = humidity-verdict
 
-pub humidity-within : (words : HumidityWords) (fine : ℤ) (count value : ℕ) → humidityOf words fine count ≡ humidity.Known value → value ≤ 102400
+pub humidity-within : (words : HumidityWords) (fine : ℤ) (count value : ℕ) → humidityOf words fine count ≡ channel.Known value → value ≤ 102400
 humidity-within words fine count value e = rw (ap natAbs (humidity-only words fine count value e .0)) (plain-le words fine count)

@@ -1,15 +1,12 @@
 -- The maker's formula of the humidity, line by line as work over signed 32 bits; its answer; and the same lines with no check.
 -- The maker's one variable v_x1_u32r is v here.
 use Prim.Native.Nat.{ℕ, min}
-use lib.IntN.{ℤ, pos, negsuc, natAbs, _+ℤ_, _-ℤ_, _*ℤ_}
-use Rattle.paper.specs.Numbers as no
+use lib.IntN.{ℤ, pos, negsuc, _+ℤ_, _-ℤ_, _*ℤ_}
 use Rattle.steps.specs.declared.Signed.the-variants.{Bits32}
-use Rattle.steps.specs.declared.Num.{Num}
-use Rattle.steps.specs.declared.Num.the-variants.{Value, Broke}
 use Rattle.steps.specs.Work.{Work, given, num, share, run, _+_, _-_, _*_, _<<_, _>>_, _<<ℤ_, _>>ℤ_}
 use Rattle.calibration.specs.declared.HumidityWords.{HumidityWords}
-use Rattle.formula.specs.declared.HumidityAnswer.{HumidityAnswer}
-use Rattle.formula.specs.declared.HumidityAnswer.the-variants.{Known, Missing}
+use Rattle.formula.specs.declared.ChannelAnswer.{ChannelAnswer}
+use Rattle.formula.specs.Answers.{answered}
 
 -- v = (t_fine - 76800);
 unfoldable pub differenceLine : ℤ → Work
@@ -66,17 +63,8 @@ humidityFormula words fine count = share (humidityLines words fine count) λ v. 
 
 -- ---- the answer
 
-abbrev pub answered : Num → HumidityAnswer
-answered (Value z) = Known (natAbs z)
-answered (Broke n) = Missing n
-
-unfoldable pub humidityOf : HumidityWords → ℤ → ℕ → HumidityAnswer
+unfoldable pub humidityOf : HumidityWords → ℤ → ℕ → ChannelAnswer
 humidityOf words fine count = answered (run Bits32 (humidityFormula words fine count))
-
--- the paper's number of an answer
-abbrev pub numberOf : HumidityAnswer → ℕ
-numberOf (Known value) = no.done
-numberOf (Missing n) = n
 
 -- ---- the lines over whole numbers, with no check
 

@@ -10,11 +10,11 @@ mod lines;
 mod plain;
 
 use calibration::HumidityWords;
-use formula::HumidityAnswer;
+use formula::ChannelAnswer;
 use formula::is_usual;
 
 // The humidity of a count, with the chip's words and the fine temperature.
-pub fn humidity(words: HumidityWords, fine: i32, count: u32) -> HumidityAnswer
+pub fn humidity(words: HumidityWords, fine: i32, count: u32) -> ChannelAnswer
     ensures { λ r. ⌜ r ≡ humidityOf words fine count ⌝ }
 {
     if is_usual(fine) & guards::are_small(words) & (count <= 65535) {

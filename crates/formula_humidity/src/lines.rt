@@ -3,9 +3,10 @@ ghost use mathlib.Core.Path.{_≡_};
 ghost use lib.IntN.{pos};
 ghost use Rattle.steps.specs.declared.Signed.the-variants.{Bits32};
 ghost use Rattle.steps.specs.Work.{run};
-ghost use Rattle.formula_humidity.specs.Humidity.{differenceLine, levelFactor, bendFactor, gainFactor, productLine, correctionLine, humidityLines, clamped, lastLine, answered};
+ghost use Rattle.formula.specs.Answers.{answered};
+ghost use Rattle.formula_humidity.specs.Humidity.{differenceLine, levelFactor, bendFactor, gainFactor, productLine, correctionLine, humidityLines, clamped, lastLine};
 use calibration::HumidityWords;
-use formula::HumidityAnswer;
+use formula::ChannelAnswer;
 use formula::signed8;
 use formula::signed16;
 use formula::signed32;
@@ -108,8 +109,8 @@ fn clamp(v: i64) -> u32
 }
 
 // The humidity: what the clamp leaves, shifted by 12.
-pub fn last(v: i64) -> HumidityAnswer
+pub fn last(v: i64) -> ChannelAnswer
     ensures { λ r. ⌜ r ≡ answered (run Bits32 (lastLine v)) ⌝ }
 {
-    HumidityAnswer::Known(clamp(v) >> 12)
+    ChannelAnswer::Known(clamp(v) >> 12)
 }

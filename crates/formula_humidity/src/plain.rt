@@ -10,7 +10,7 @@ use super::checked;
 use super::guards;
 use super::lines;
 use calibration::HumidityWords;
-use formula::HumidityAnswer;
+use formula::ChannelAnswer;
 
 // The product's first factor.
 fn level(words: HumidityWords, count: u32, v: i64) -> i64
@@ -53,7 +53,7 @@ fn correct(words: HumidityWords, v: i64) -> i64
 
 // The humidity, where the fine temperature and the words are usual and the count has its sixteen bits.
 // A product that is not small takes the checked road.
-pub fn humidity(words: HumidityWords, fine: i32, count: u32) -> HumidityAnswer
+pub fn humidity(words: HumidityWords, fine: i32, count: u32) -> ChannelAnswer
     requires { ⌜ Usual fine × (SmallWords words × (count ≤ 65535)) ⌝ }
     ensures { λ r. ⌜ r ≡ humidityOf words fine count ⌝ }
 {

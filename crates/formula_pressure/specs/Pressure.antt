@@ -2,16 +2,14 @@
 use Prim.Native.Nat.{ℕ}
 use mathlib.Core.Bool.{Bool, false}
 use lib.Dec.{leb}
-use lib.IntN.{ℤ, pos, negsuc, natAbs, _+ℤ_, _-ℤ_, _*ℤ_}
+use lib.IntN.{ℤ, pos, negsuc, _+ℤ_, _-ℤ_, _*ℤ_}
 use Rattle.paper.specs.Numbers as no
 use Rattle.steps.specs.declared.Signed.the-variants.{Bits64}
-use Rattle.steps.specs.declared.Num.{Num}
-use Rattle.steps.specs.declared.Num.the-variants.{Value, Broke}
 use Rattle.steps.specs.Step.{isNonzero}
 use Rattle.steps.specs.Work.{Work, given, num, share, test, run, _+_, _-_, _*_, _/_, _<<_, _>>_, _/ℤ_, _<<ℤ_, _>>ℤ_}
 use Rattle.calibration.specs.declared.PressureWords.{PressureWords}
-use Rattle.formula.specs.declared.PressureAnswer.{PressureAnswer}
-use Rattle.formula.specs.declared.PressureAnswer.the-variants.{Known, Missing}
+use Rattle.formula.specs.declared.ChannelAnswer.{ChannelAnswer}
+use Rattle.formula.specs.Answers.{answered}
 
 -- var1 = t_fine - 128000;
 unfoldable pub differenceLine : ℤ → Work
@@ -94,17 +92,8 @@ pressureFormula words fine count = test isPressure no.pressureOutside (pressureL
 
 -- ---- the answer
 
-abbrev pub answered : Num → PressureAnswer
-answered (Value z) = Known (natAbs z)
-answered (Broke n) = Missing n
-
-unfoldable pub pressureOf : PressureWords → ℤ → ℕ → PressureAnswer
+unfoldable pub pressureOf : PressureWords → ℤ → ℕ → ChannelAnswer
 pressureOf words fine count = answered (run Bits64 (pressureFormula words fine count))
-
--- the paper's number of an answer
-abbrev pub numberOf : PressureAnswer → ℕ
-numberOf (Known value) = no.done
-numberOf (Missing n) = n
 
 -- ---- the lines over whole numbers, with no check
 

@@ -3,26 +3,27 @@ ghost use mathlib.Core.Path.{_≡_};
 ghost use Rattle.formula_pressure.specs.Pressure.{pressureOf};
 use super::lines;
 use calibration::PressureWords;
-use formula::PressureAnswer;
+use formula::ChannelAnswer;
+use formula::Missing;
 use steps::Num;
 
 // The pressure.
-pub fn pressure(words: PressureWords, fine: i32, count: u32) -> PressureAnswer
+pub fn pressure(words: PressureWords, fine: i32, count: u32) -> ChannelAnswer
     ensures { λ r. ⌜ r ≡ pressureOf words fine count ⌝ }
 {
     match lines::pressure(words, fine, count) {
-        Num::Broke(n) => PressureAnswer::Missing(n),
+        Num::Broke(n) => ChannelAnswer::Missing(Missing { number: n }),
         Num::Value(p) => lines::in_range(p),
     }
 }
 
 // The same pressure, made anew of its parts.
 // The checked road leaves its answer in memory; made anew, it leaves the plain road's in the machine's registers.
-pub fn anew(a: PressureAnswer) -> PressureAnswer
+pub fn anew(a: ChannelAnswer) -> ChannelAnswer
     ensures { λ r. ⌜ r ≡ a ⌝ }
 {
     match a {
-        PressureAnswer::Known(value) => PressureAnswer::Known(value),
-        PressureAnswer::Missing(n) => PressureAnswer::Missing(n),
+        ChannelAnswer::Known(value) => ChannelAnswer::Known(value),
+        ChannelAnswer::Missing(n) => ChannelAnswer::Missing(n),
     }
 }

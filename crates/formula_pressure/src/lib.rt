@@ -10,11 +10,11 @@ mod lines;
 mod plain;
 
 use calibration::PressureWords;
-use formula::PressureAnswer;
+use formula::ChannelAnswer;
 use formula::is_usual;
 
 // The pressure of a count, with the chip's words and the fine temperature.
-pub fn pressure(words: PressureWords, fine: i32, count: u32) -> PressureAnswer
+pub fn pressure(words: PressureWords, fine: i32, count: u32) -> ChannelAnswer
     ensures { λ r. ⌜ r ≡ pressureOf words fine count ⌝ }
 {
     if is_usual(fine) & (words.p1 <= 45000) & (count <= 1048576) {

@@ -4,9 +4,11 @@ ghost use Rattle.paper.specs.Numbers as no;
 ghost use Rattle.steps.specs.declared.Signed.the-variants.{Bits64};
 ghost use Rattle.steps.specs.Step.{passed};
 ghost use Rattle.steps.specs.Work.{run};
-ghost use Rattle.formula_pressure.specs.Pressure.{differenceLine, offsetLines, divisorLines, quotientLines, curveLine, slopeLine, lastLine, refinedLines, pressureLines, isPressure, answered};
+ghost use Rattle.formula.specs.Answers.{answered};
+ghost use Rattle.formula_pressure.specs.Pressure.{differenceLine, offsetLines, divisorLines, quotientLines, curveLine, slopeLine, lastLine, refinedLines, pressureLines, isPressure};
 use calibration::PressureWords;
-use formula::PressureAnswer;
+use formula::ChannelAnswer;
+use formula::Missing;
 use formula::signed16;
 use formula::signed32;
 use formula::unsigned;
@@ -133,14 +135,18 @@ pub fn pressure(words: PressureWords, fine: i32, count: u32) -> Num
 }
 
 // The pressure, where it lies from 0 to 4294967295.
-pub fn in_range(p: i64) -> PressureAnswer
+pub fn in_range(p: i64) -> ChannelAnswer
     ensures { λ r. ⌜ r ≡ answered (passed (isPressure p) no.pressureOutside p) ⌝ }
 {
     if p < 0 {
-        return PressureAnswer::Missing(paper::PRESSURE_OUTSIDE);
+        return ChannelAnswer::Missing(Missing {
+            number: paper::PRESSURE_OUTSIDE,
+        });
     }
     if p > 4294967295 {
-        return PressureAnswer::Missing(paper::PRESSURE_OUTSIDE);
+        return ChannelAnswer::Missing(Missing {
+            number: paper::PRESSURE_OUTSIDE,
+        });
     }
-    PressureAnswer::Known(p as u32)
+    ChannelAnswer::Known(p as u32)
 }

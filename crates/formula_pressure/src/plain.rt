@@ -12,7 +12,7 @@ use super::checked;
 use super::guards;
 use super::lines;
 use calibration::PressureWords;
-use formula::PressureAnswer;
+use formula::ChannelAnswer;
 
 // The offset that the dividend loses.
 fn offset(words: PressureWords, difference: i64) -> i64
@@ -68,7 +68,7 @@ fn refine(words: PressureWords, p: i64) -> i64
 
 // The pressure, where the fine temperature and P1 are usual and the count has its twenty bits.
 // A quotient that is not small takes the checked road.
-pub fn pressure(words: PressureWords, fine: i32, count: u32) -> PressureAnswer
+pub fn pressure(words: PressureWords, fine: i32, count: u32) -> ChannelAnswer
     requires { ⌜ Usual fine × ((words .p1 ≤ 45000) × (count ≤ 1048576)) ⌝ }
     ensures { λ r. ⌜ r ≡ pressureOf words fine count ⌝ }
 {

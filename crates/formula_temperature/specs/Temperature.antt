@@ -1,7 +1,6 @@
 -- The maker's formula of the temperature, line by line as work over signed 32 bits; its answer; and the same lines with no check.
 use Prim.Native.Nat.{ℕ}
 use lib.IntN.{ℤ, pos, _+ℤ_, _-ℤ_, _*ℤ_}
-use Rattle.paper.specs.Numbers as no
 use Rattle.steps.specs.declared.Signed.the-variants.{Bits32}
 use Rattle.steps.specs.declared.Num.{Num}
 use Rattle.steps.specs.declared.Num.the-variants.{Value, Broke}
@@ -9,6 +8,7 @@ use Rattle.steps.specs.Work.{Work, given, num, share, run, _+_, _-_, _*_, _<<_,
 use Rattle.calibration.specs.declared.TemperatureWords.{TemperatureWords}
 use Rattle.formula.specs.declared.TemperatureAnswer.{TemperatureAnswer}
 use Rattle.formula.specs.declared.TemperatureAnswer.the-variants.{Known, Missing}
+use Rattle.formula.specs.Answers.{missing}
 
 -- var1 = ((((adc_T >> 3) - (T1 << 1))) * T2) >> 11;
 unfoldable pub slopeLine : TemperatureWords → ℕ → Work
@@ -44,19 +44,14 @@ temperatureFormula words count = share (fineLines words count) λ fine. degreesL
 
 abbrev pub withFine : ℤ → Num → TemperatureAnswer
 withFine fine (Value value) = Known value fine
-withFine fine (Broke n) = Missing n
+withFine fine (Broke n) = Missing (missing n)
 
 abbrev pub fromFine : Num → TemperatureAnswer
 fromFine (Value fine) = withFine fine (run Bits32 (degreesLine fine))
-fromFine (Broke n) = Missing n
+fromFine (Broke n) = Missing (missing n)
 
 unfoldable pub temperatureOf : TemperatureWords → ℕ → TemperatureAnswer
 temperatureOf words count = fromFine (run Bits32 (fineLines words count))
-
--- the paper's number of an answer
-abbrev pub numberOf : TemperatureAnswer → ℕ
-numberOf (Known value fine) = no.done
-numberOf (Missing n) = n
 
 -- ---- the lines over whole numbers, with no check
 

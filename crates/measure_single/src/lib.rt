@@ -6,8 +6,7 @@ ghost use lib.ListN.{length};
 ghost use Rattle.compensation.specs.Compensation.{compensated};
 ghost use Rattle.measure_told.specs.Told as keep;
 use compensation::Answer;
-use formula::HumidityAnswer;
-use formula::PressureAnswer;
+use formula::ChannelAnswer;
 use formula::TemperatureAnswer;
 
 // A temperature is kept at its place.
@@ -22,24 +21,24 @@ fn tell_temperature(a: TemperatureAnswer, told: &mut [i64])
 }
 
 // A pressure is kept at its place.
-fn tell_pressure(a: PressureAnswer, told: &mut [i64])
+fn tell_pressure(a: ChannelAnswer, told: &mut [i64])
     requires { ⌜ 2 < length (now told) ⌝ }
     ensures { λ _. ⌜ now (told .exit) ≡ keep.withPressure a 1 (now (told .entry)) ⌝ }
 {
     match a {
-        PressureAnswer::Known(value) => told[1] = value as i64,
-        PressureAnswer::Missing(_) => {},
+        ChannelAnswer::Known(value) => told[1] = value as i64,
+        ChannelAnswer::Missing(_) => {},
     }
 }
 
 // A humidity is kept at its place.
-fn tell_humidity(a: HumidityAnswer, told: &mut [i64])
+fn tell_humidity(a: ChannelAnswer, told: &mut [i64])
     requires { ⌜ 2 < length (now told) ⌝ }
     ensures { λ _. ⌜ now (told .exit) ≡ keep.withHumidity a 2 (now (told .entry)) ⌝ }
 {
     match a {
-        HumidityAnswer::Known(value) => told[2] = value as i64,
-        HumidityAnswer::Missing(_) => {},
+        ChannelAnswer::Known(value) => told[2] = value as i64,
+        ChannelAnswer::Missing(_) => {},
     }
 }
 

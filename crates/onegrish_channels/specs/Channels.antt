@@ -8,13 +8,9 @@ use lib.IntN.{ℤ, pos}
 use Rattle.paper.specs.Numbers as no
 use Rattle.formula.specs.declared.TemperatureAnswer.{TemperatureAnswer}
 use Rattle.formula.specs.declared.TemperatureAnswer.the-variants as heat
-use Rattle.formula.specs.declared.PressureAnswer.{PressureAnswer}
-use Rattle.formula.specs.declared.PressureAnswer.the-variants as press
-use Rattle.formula.specs.declared.HumidityAnswer.{HumidityAnswer}
-use Rattle.formula.specs.declared.HumidityAnswer.the-variants as damp
-use Rattle.formula_temperature.specs.Temperature as temperature
-use Rattle.formula_pressure.specs.Pressure as pressure
-use Rattle.formula_humidity.specs.Humidity as humidity
+use Rattle.formula.specs.declared.ChannelAnswer.{ChannelAnswer}
+use Rattle.formula.specs.declared.ChannelAnswer.the-variants as channel
+use Rattle.formula.specs.Answers.{temperatureNumber, channelNumber}
 use Rattle.compensation.specs.declared.Reading.{Reading}
 use Rattle.compensation.specs.declared.Answer as comp
 use Rattle.compensation.specs.declared.Answer.the-variants as whole
@@ -26,26 +22,26 @@ abbrev pub withTemperature : TemperatureAnswer → List ℤ → List ℤ
 withTemperature (heat.Known value fine) lent = set (set lent 0 value) 1 fine
 withTemperature (heat.Missing n) lent = lent
 
-abbrev pub withPressure : PressureAnswer → List ℤ → List ℤ
-withPressure (press.Known value) lent = set lent 2 (pos value)
-withPressure (press.Missing n) lent = lent
+abbrev pub withPressure : ChannelAnswer → List ℤ → List ℤ
+withPressure (channel.Known value) lent = set lent 2 (pos value)
+withPressure (channel.Missing n) lent = lent
 
-abbrev pub withHumidity : HumidityAnswer → List ℤ → List ℤ
-withHumidity (damp.Known value) lent = set lent 3 (pos value)
-withHumidity (damp.Missing n) lent = lent
+abbrev pub withHumidity : ChannelAnswer → List ℤ → List ℤ
+withHumidity (channel.Known value) lent = set lent 3 (pos value)
+withHumidity (channel.Missing n) lent = lent
 
 abbrev pub temperatureInto : TemperatureAnswer → List ℤ → ℕ × List ℤ
-temperatureInto a lent = (temperature.numberOf a, withTemperature a lent)
+temperatureInto a lent = (temperatureNumber a, withTemperature a lent)
 
-abbrev pub pressureInto : PressureAnswer → List ℤ → ℕ × List ℤ
-pressureInto a lent = (pressure.numberOf a, withPressure a lent)
+abbrev pub pressureInto : ChannelAnswer → List ℤ → ℕ × List ℤ
+pressureInto a lent = (channelNumber a, withPressure a lent)
 
-abbrev pub humidityInto : HumidityAnswer → List ℤ → ℕ × List ℤ
-humidityInto a lent = (humidity.numberOf a, withHumidity a lent)
+abbrev pub humidityInto : ChannelAnswer → List ℤ → ℕ × List ℤ
+humidityInto a lent = (channelNumber a, withHumidity a lent)
 
 abbrev pub withNumbers : Reading → List ℕ → List ℕ
 withNumbers r lent =
-    set (set (set lent 0 (temperature.numberOf (r .temperature))) 1 (pressure.numberOf (r .pressure))) 2 (humidity.numberOf (r .humidity))
+    set (set (set lent 0 (temperatureNumber (r .temperature))) 1 (channelNumber (r .pressure))) 2 (channelNumber (r .humidity))
 
 abbrev pub withValues : Reading → List ℤ → List ℤ
 withValues r lent = withHumidity (r .humidity) (withPressure (r .pressure) (withTemperature (r .temperature) lent))

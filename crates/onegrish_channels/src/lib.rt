@@ -5,8 +5,7 @@ ghost use lib.ListN.{length};
 ghost use Rattle.onegrish_channels.specs.Channels as into;
 use compensation::Answer;
 use compensation::Reading;
-use formula::HumidityAnswer;
-use formula::PressureAnswer;
+use formula::ChannelAnswer;
 use formula::TemperatureAnswer;
 
 // The number of a temperature; its values are written where it is 0.
@@ -15,7 +14,7 @@ fn hand_temperature(answer: TemperatureAnswer, values: &mut [i64]) -> u8
     ensures { λ r. ⌜ (r, now (values .exit)) ≡ into.temperatureInto answer (now (values .entry)) ⌝ }
 {
     match answer {
-        TemperatureAnswer::Missing(number) => number,
+        TemperatureAnswer::Missing(missing) => missing.number,
         TemperatureAnswer::Known { value, fine } => {
             values[0] = value as i64;
             values[1] = fine as i64;
@@ -25,13 +24,13 @@ fn hand_temperature(answer: TemperatureAnswer, values: &mut [i64]) -> u8
 }
 
 // The number of a pressure; its value is written where it is 0.
-fn hand_pressure(answer: PressureAnswer, values: &mut [i64]) -> u8
+fn hand_pressure(answer: ChannelAnswer, values: &mut [i64]) -> u8
     requires { ⌜ 4 ≤ length (now values) ⌝ }
     ensures { λ r. ⌜ (r, now (values .exit)) ≡ into.pressureInto answer (now (values .entry)) ⌝ }
 {
     match answer {
-        PressureAnswer::Missing(number) => number,
-        PressureAnswer::Known(value) => {
+        ChannelAnswer::Missing(missing) => missing.number,
+        ChannelAnswer::Known(value) => {
             values[2] = value as i64;
             paper::DONE
         },
@@ -39,13 +38,13 @@ fn hand_pressure(answer: PressureAnswer, values: &mut [i64]) -> u8
 }
 
 // The number of a humidity; its value is written where it is 0.
-fn hand_humidity(answer: HumidityAnswer, values: &mut [i64]) -> u8
+fn hand_humidity(answer: ChannelAnswer, values: &mut [i64]) -> u8
     requires { ⌜ 4 ≤ length (now values) ⌝ }
     ensures { λ r. ⌜ (r, now (values .exit)) ≡ into.humidityInto answer (now (values .entry)) ⌝ }
 {
     match answer {
-        HumidityAnswer::Missing(number) => number,
-        HumidityAnswer::Known(value) => {
+        ChannelAnswer::Missing(missing) => missing.number,
+        ChannelAnswer::Known(value) => {
             values[3] = value as i64;
             paper::DONE
         },

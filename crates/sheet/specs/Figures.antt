@@ -7,30 +7,28 @@ use Rattle.paper.specs.Numbers as no
 use Rattle.paper.specs.Answers.{Answer}
 use Rattle.formula.specs.declared.TemperatureAnswer.{TemperatureAnswer}
 use Rattle.formula.specs.declared.TemperatureAnswer.the-variants as heat
-use Rattle.formula.specs.declared.PressureAnswer.{PressureAnswer}
-use Rattle.formula.specs.declared.PressureAnswer.the-variants as press
-use Rattle.formula.specs.declared.HumidityAnswer.{HumidityAnswer}
-use Rattle.formula.specs.declared.HumidityAnswer.the-variants as damp
+use Rattle.formula.specs.declared.ChannelAnswer.{ChannelAnswer}
+use Rattle.formula.specs.declared.ChannelAnswer.the-variants as channel
 use Rattle.compensation.specs.declared.Reading.{Reading}
 use Rattle.machine.specs.declared.Closing.{Closing}
 use Rattle.machine.specs.declared.Ledger.{Ledger}
 
 abbrev pub ofTemperature : TemperatureAnswer → List ℤ
 ofTemperature (heat.Known value fine) = pos no.done ∷ value ∷ []
-ofTemperature (heat.Missing n) = pos n ∷ []
+ofTemperature (heat.Missing m) = pos (m .number) ∷ []
 
 -- the fine temperature, which is absent where the temperature is
 abbrev pub ofFine : TemperatureAnswer → List ℤ
 ofFine (heat.Known value fine) = fine ∷ []
-ofFine (heat.Missing n) = []
+ofFine (heat.Missing m) = []
 
-abbrev pub ofPressure : PressureAnswer → List ℤ
-ofPressure (press.Known value) = pos no.done ∷ pos value ∷ []
-ofPressure (press.Missing n) = pos n ∷ []
+abbrev pub ofPressure : ChannelAnswer → List ℤ
+ofPressure (channel.Known value) = pos no.done ∷ pos value ∷ []
+ofPressure (channel.Missing m) = pos (m .number) ∷ []
 
-abbrev pub ofHumidity : HumidityAnswer → List ℤ
-ofHumidity (damp.Known value) = pos no.done ∷ pos value ∷ []
-ofHumidity (damp.Missing n) = pos n ∷ []
+abbrev pub ofHumidity : ChannelAnswer → List ℤ
+ofHumidity (channel.Known value) = pos no.done ∷ pos value ∷ []
+ofHumidity (channel.Missing m) = pos (m .number) ∷ []
 
 abbrev pub ofReading : Reading → List ℤ
 ofReading r = ofTemperature (r .temperature) ++ (ofPressure (r .pressure) ++ ofHumidity (r .humidity))

@@ -6,7 +6,7 @@ use lib.IntN.{ℤ, pos, zero-*ℤ, *ℤ-zero}
 use Rattle.steps.specs.Step.{onValue, onValues}
 use Rattle.steps.specs.Work.{run}
 use Rattle.calibration.specs.declared.HumidityWords.{HumidityWords}
-use Rattle.formula.specs.declared.HumidityAnswer.the-variants as humidity
+use Rattle.formula.specs.declared.ChannelAnswer.the-variants as humidity
 use Rattle.formula_humidity.specs.Humidity as h
 
 abbrev pub k5Words : ℤ → ℕ → ℤ → ℤ → HumidityWords

@@ -81,7 +81,7 @@ unfoldable pub unbracketedLine : PressureWords → ℤ → ℤ → ℤ → Work
 unbracketedLine words q var1 var2 = (given q + given var1 + given var2 >> 8) + given (words .p7) << 4
 
 abbrev ofUnbracketed : TemperatureAnswer → PressureWords → ℕ → List ℤ
-ofUnbracketed (heat.Missing n) words count = pos n ∷ []
+ofUnbracketed (heat.Missing m) words count = pos (m .number) ∷ []
 ofUnbracketed (heat.Known value fine) words count =
     ofNum
     (run Bits64

@@ -14,7 +14,7 @@ returns : tie.Need-returns
 returns c = rw (c .before .before .before .before .before .before .channel .given .1, c .before .before .named .ensures)
 
 returns-2 : tie.Need-returns-2
-returns-2 c = rw (c .before .before .before .before .before .before .channel2 .given .1, c .before .before .named2 .ensures)
+returns-2 c = rw (c .before .before .before .before .before .before .before .channel2 .given .1, c .before .before .named2 .ensures)
 
 pub tell-humidity-spec : {M : Type 1} → statement M
 tell-humidity-spec =

@@ -26,7 +26,7 @@ returns : tie.Need-returns
 returns c = rw (c .before .before .before .before .before .before .before .before .before .before .before .channel .given .1, c .before .before .signed2 .ensures, c .before .before .before .before .before .before .before .signed .ensures, toZ-ofZ (fine-fits (c .before .before .before .before .before .before .before .before .before .before)), toZ-ofZ (value-fits (c .before .before .before .before .before .before .before .before .before .before)))
 
 returns-2 : tie.Need-returns-2
-returns-2 c = rw (c .before .before .before .before .before .before .channel2 .given .1, c .before .before .named .ensures)
+returns-2 c = rw (c .before .before .before .before .before .before .before .channel2 .given .1, c .before .before .named .ensures)
 
 pub tell-temperature-spec : {M : Type 1} → statement M
 tell-temperature-spec =

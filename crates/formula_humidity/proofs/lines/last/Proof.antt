@@ -8,8 +8,9 @@ use borrow.Author.Tests.{lt-ltb}
 use Rattle.steps.specs.declared.Signed.the-variants.{Bits32}
 use Rattle.steps.specs.Step.{onValue}
 use Rattle.steps.specs.Work.{run}
-use Rattle.formula.specs.declared.HumidityAnswer.the-variants.{Known}
-use Rattle.formula_humidity.specs.Humidity.{clamped, lastLine, answered}
+use Rattle.formula.specs.declared.ChannelAnswer.the-variants.{Known}
+use Rattle.formula.specs.Answers.{answered}
+use Rattle.formula_humidity.specs.Humidity.{clamped, lastLine}
 use Rattle.formula_humidity.proofs.lines.last.Statement.{statement}
 use Rattle.formula_humidity.proofs.lines.last.Tie as tie
 

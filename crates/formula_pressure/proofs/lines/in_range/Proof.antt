@@ -25,8 +25,8 @@ ranged c =
     let s = c .before .before in
     between 4294967295 (s .args .p) (rw (toZ-ofZ (s .fits .p)) at (c .before .if1 .left)) (rw (toZ-ofZ (s .fits .p)) at (c .if2 .left))
 
-cast-t3 : tie.Need-cast-t3
-cast-t3 c =
+cast-t5 : tie.Need-cast-t5
+cast-t5 c =
     let s = c .before .before in
     let h = ranged c in
     rw (toZ-ofZ (s .fits .p), h .0) (tt, record { fits = omega arith })
@@ -38,4 +38,4 @@ returns-3 c =
     rw (toZ-ofZ (s .fits .p), h .0, le-leb (natAbs (s .args .p)) 4294967295 (h .1))
 
 pub in-range-spec : {M : Type 1} → statement M
-in-range-spec = tie.close (tie.spec returns returns-2 cast-t3 returns-3)
+in-range-spec = tie.close (tie.spec returns returns-2 cast-t5 returns-3)

@@ -36,13 +36,13 @@ value-fits : (c : tie.After-value) → SFits w32 (c .value .given .0 .0)
 unfolding degreesLine
 value-fits c = fits-32 (degreesLine (c .before .before .before .before .fine2 .given .0 .0)) (c .value .given .0 .0) tt (value-is c)
 
-cast-t11 : tie.Need-cast-t11
-cast-t11 c =
+cast-t13 : tie.Need-cast-t13
+cast-t13 c =
     let h : SFits w64 (c .before .value .given .0 .0) = search needs in
     rw (toZ-ofZ h) (value-fits (c .before))
 
-cast-t12 : tie.Need-cast-t12
-cast-t12 c =
+cast-t14 : tie.Need-cast-t14
+cast-t14 c =
     let x = c .before .before .before .before .before in
     let h : SFits w64 (x .fine2 .given .0 .0) = search needs in
     rw (toZ-ofZ h) (fine-fits x)
@@ -67,4 +67,4 @@ returns-3 c =
     rw (toZ-ofZ hv, toZ-ofZ hx, toZ-ofZ (value-fits v), toZ-ofZ (fine-fits x), fine-is x, value-is v)
 
 pub temperature-spec : {M : Type 1} → statement M
-temperature-spec = tie.close (tie.spec (λ c κs. tt) (λ c. search needs) (λ c. search needs) (λ c κs. tt) (λ c. search needs) (λ c. search needs) cast-t11 cast-t12 returns returns-2 returns-3)
+temperature-spec = tie.close (tie.spec (λ c κs. tt) (λ c. search needs) (λ c. search needs) (λ c κs. tt) (λ c. search needs) (λ c. search needs) cast-t13 cast-t14 returns returns-2 returns-3)
