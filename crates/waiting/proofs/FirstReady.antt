@@ -1,17 +1,19 @@
--- What polling finds: the place given is ready and no earlier one is; where it gives 17, none of those polled is.
+-- `polled` finds the first ready byte, and whatever does so is `polled`.
 use Prim.Native.Nat.{ℕ, zero, suc, _+_, _≤_, _<_}
 use native.Mathlib.Omega.{arith}
 use lib.Dec.{ltb}
 use lib.ListN.{length, getD, take}
 use lib.Seq.{getD-take, length-take-le}
-use borrow.Author.Tests.{ltb-true, ltb-false}
-use mathlib.Core.Bool.{true, false}
+use borrow.Author.Tests.{ltb-true, ltb-false, lt-ltb, le-ltb}
+use mathlib.Core.Bool.{Bool, true, false}
 use mathlib.Core.List.{List, [], _∷_}
-use mathlib.Core.Path.{_≡_, sym}
+use mathlib.Core.Path.{_≡_, sym, _∙_}
 use Rattle.laws.specs.Choices.{pick}
+use Rattle.laws.specs.Tests as tests
 use Rattle.paper.specs.Answers.{Answer, given}
 use Rattle.paper.proofs.Answers.{same-number, same-values}
 use Rattle.waiting.specs.Polling.{isReady, firstReady, limit, place, never, polled}
+use Rattle.waiting.specs.FirstReady.{Found, NeverReady, FindsFirst}
 
 -- ---- the first ready byte of a list
 
@@ -57,21 +59,9 @@ module _ (status : List ℕ) (allowance : ℕ) where
 
 -- ---- the two answers
 
--- a place: it is among those allowed, that byte is ready, none before it is, and the polls are one more
-pub record Found (status : List ℕ) (allowance at polls : ℕ) : Type 0 where
-  pub counted : polls ≡ at + 1
-  pub allowed : polls ≤ limit status allowance
-  pub ready : isReady (getD status at 0) ≡ true
-  pub first : (k : ℕ) → k < at → isReady (getD status k 0) ≡ false
-
--- none: as many polls as both limits allow, and none of those bytes is ready
-pub record NeverReady (status : List ℕ) (allowance polls : ℕ) : Type 0 where
-  pub counted : polls ≡ limit status allowance
-  pub none : (k : ℕ) → k < polls → isReady (getD status k 0) ≡ false
-
-pub given-found : (status : List ℕ) (allowance at polls : ℕ) → polled status allowance ≡ given (at ∷ polls ∷ []) → Found status allowance at polls
+place-found : (status : List ℕ) (allowance at polls : ℕ) → polled status allowance ≡ given (at ∷ polls ∷ []) → Found status allowance at polls
 unfolding polled
-given-found status allowance at polls =
+place-found status allowance at polls =
     pick (λ (answer : Answer). answer ≡ given (at ∷ polls ∷ []) → Found status allowance at polls)
     (ltb (place status allowance) (limit status allowance))
     (λ e a.
@@ -81,13 +71,14 @@ given-found status allowance at polls =
     let q : place status allowance + 1 ≡ polls = cc in
     record {
       counted = omega arith;
+      there = omega arith;
       allowed = omega arith;
       ready = rw p at (place-is-ready status allowance h);
       first = rw p at (before-place status allowance);
     })
     (λ e a. absurd (omega (arith, same-number a)))
 
-pub never-none : (status : List ℕ) (allowance polls : ℕ) → polled status allowance ≡ never polls → NeverReady status allowance polls
+never-none : (status : List ℕ) (allowance polls : ℕ) → polled status allowance ≡ never polls → NeverReady status allowance polls
 unfolding polled
 never-none status allowance polls =
     pick (λ (answer : Answer). answer ≡ never polls → NeverReady status allowance polls)
@@ -98,3 +89,39 @@ never-none status allowance polls =
     let v = same-values a in
     let q : limit status allowance ≡ polls = cc in
     record { counted = sym q; none = λ k g. before-place status allowance k (omega arith) })
+
+-- ---- and back: the first ready byte has one place
+
+both-ways : {b : Bool} → b ≡ true → b ≡ false → ⊥
+both-ways p q = tests.never (sym q ∙ p)
+
+module _ (status : List ℕ) (allowance at polls : ℕ) (f : Found status allowance at polls) where
+  same-place : place status allowance ≡ at
+  same-place =
+      let early : place status allowance < at → ⊥ = λ h. both-ways (place-is-ready status allowance (omega arith)) (f .first _ h) in
+      let late : at < place status allowance → ⊥ = λ h. both-ways (f .ready) (before-place status allowance at h) in
+      omega arith
+
+  found-place : polled status allowance ≡ given (at ∷ polls ∷ [])
+  unfolding polled
+  found-place =
+      let h : at < limit status allowance = omega arith in
+      rw (same-place, lt-ltb at (limit status allowance) h, f .counted)
+
+none-never : (status : List ℕ) (allowance polls : ℕ) → NeverReady status allowance polls → polled status allowance ≡ never polls
+unfolding polled
+none-never status allowance polls n =
+    let found : place status allowance < limit status allowance → ⊥ = λ h. both-ways (place-is-ready status allowance h) (n .none _ (omega arith)) in
+    rw (le-ltb (place status allowance) (limit status allowance) (omega arith), n .counted)
+
+pub finds-first : FindsFirst polled
+finds-first =
+    record { place-found = place-found; found-place = found-place; never-none = never-none; none-never = none-never }
+
+-- so one that always refuses, or always answers a place, does not
+pub only-polled : (other : List ℕ → ℕ → Answer) → FindsFirst other → (status : List ℕ) (allowance : ℕ) → other status allowance ≡ polled status allowance
+unfolding polled
+only-polled other f status allowance =
+    pick (λ (answer : Answer). other status allowance ≡ answer) (ltb (place status allowance) (limit status allowance))
+    (λ e. f .found-place _ _ _ _ (place-found status allowance _ _ (rw e)))
+    (λ e. f .none-never _ _ _ (never-none status allowance _ (rw e)))
