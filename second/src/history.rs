@@ -87,8 +87,9 @@ pub fn running_at(history: &[Happening], moment: usize) -> Option<Conversion> {
 /// Says whether the burst that is open at the moment is whole so far.
 /// Whole means that all of 0xF7 to 0xFE were given.
 pub fn whole_at(history: &[Happening], moment: usize) -> bool {
-    let Some(opening) = opening_at(history, moment) else {
-        return false;
+    let opening = match opening_at(history, moment) {
+        Some(opening) => opening,
+        None => return false,
     };
     let mut given = [false; DATA];
     for happening in &history[opening..moment] {

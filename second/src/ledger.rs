@@ -65,8 +65,9 @@ pub fn deliveries(history: &[Happening]) -> Vec<Delivery> {
         if *happening != Happening::Closed || !whole_at(history, moment) {
             continue;
         }
-        let Some(shown) = shown_at(history, moment) else {
-            continue;
+        let shown = match shown_at(history, moment) {
+            Some(shown) => shown,
+            None => continue,
         };
         let number = shown.conversion.number;
         if list.last().map(|last| last.number) != Some(number) {
@@ -80,7 +81,7 @@ pub fn deliveries(history: &[Happening]) -> Vec<Delivery> {
 /// A whole close at that very moment counts.
 fn delivered_by(deliveries: &[Delivery], number: u64, moment: usize) -> bool {
     let found = deliveries.binary_search_by_key(&number, |delivery| delivery.number);
-    found.is_ok_and(|place| deliveries[place].moment <= moment)
+    found.map_or(false, |place| deliveries[place].moment <= moment)
 }
 
 /// Lists the conversions that a reset or power event at this moment found.

@@ -187,7 +187,7 @@ impl Machine {
             Phase::Normal => Phase::Standby,
             _ => Phase::Sleep,
         };
-        self.check_begun(self.held.is_some_and(|value| begins(after, value)))?;
+        self.check_begun(self.held.map_or(false, |value| begins(after, value)))?;
         self.record.add(Happening::Finished(Finished {
             conversion,
             bytes: data::bytes(data::stored(counts, conversion.codes)),

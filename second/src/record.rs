@@ -132,7 +132,7 @@ impl Record {
             Happening::Begun(conversion) => kept(conversion.number),
             Happening::Finished(finished) => kept(finished.conversion.number),
             Happening::Opened | Happening::Given(_) | Happening::Closed => {
-                *moment >= open || first.as_ref().is_some_and(|burst| burst.contains(moment))
+                *moment >= open || first.as_ref().map_or(false, |burst| burst.contains(moment))
             }
             Happening::Reset => false,
         };

@@ -92,7 +92,7 @@ fn finish_during_burst(bytes: usize) -> Vec<&'static str> {
         "open F7",
         "finish 519889 415149 1",
     ];
-    lines.extend(std::iter::repeat_n("byte", bytes));
+    lines.extend(vec!["byte"; bytes]);
     lines.extend(["close 8", "ledger"]);
     lines
 }

@@ -61,8 +61,9 @@ fn folding_changes_nothing() {
         let mut whole: Vec<Happening> = Vec::new();
         let mut open = false;
         for round in 0..6_000 {
-            let Some(happening) = next(&mut random, &whole, open, record.begun()) else {
-                continue;
+            let happening = match next(&mut random, &whole, open, record.begun()) {
+                Some(happening) => happening,
+                None => continue,
             };
             match happening {
                 Happening::Begun(conversion) => record.begin(conversion.codes),

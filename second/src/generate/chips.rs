@@ -69,6 +69,19 @@ pub fn extreme(random: &mut Random) -> Words {
     with_edges(random, Words::default(), 60)
 }
 
+/// Gives the square root of a number below 2^62, rounded down.
+/// It is found bit by bit, from the highest.
+fn square_root(number: i64) -> i64 {
+    (0..31).rev().fold(0, |root, bit| {
+        let higher = root + (1 << bit);
+        if higher * higher <= number {
+            higher
+        } else {
+            root
+        }
+    })
+}
+
 /// Makes words whose temperature comes close to leaving its type at the given count.
 /// Either the first product, the square or the second product is at its limit.
 pub fn hot(random: &mut Random, count: i64) -> Words {
@@ -86,7 +99,7 @@ pub fn hot(random: &mut Random, count: i64) -> Words {
         _ => {
             let size = random.between(8_000, 32_767);
             words.t[2] = size * random.pick(&[-1, 1]);
-            let root = ((1_u64 << 43) / size as u64).isqrt() as i64;
+            let root = square_root((1_i64 << 43) / size);
             words.t[0] = (count >> 4) + root * random.pick(&[-1, 1]) + little;
             words.t[1] = random.between(-2_000, 2_000);
         }
