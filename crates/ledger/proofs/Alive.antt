@@ -5,28 +5,34 @@ use mathlib.Core.Bool.{Bool, true, false}
 use mathlib.Core.List.{List, [], _∷_, _++_}
 use native.Mathlib.Omega.{arith}
 use Rattle.paper.specs.Registers as reg
+use Rattle.machine.specs.declared.Phase.{Phase}
+use Rattle.machine.specs.declared.Phase.the-variants.{Sleep, Standby}
 use Rattle.machine.specs.declared.Held.the-variants.{Nothing}
 use Rattle.machine.specs.declared.Burst.the-variants.{Closed}
 use Rattle.machine.specs.declared.Codes.{Codes}
+use Rattle.machine.specs.declared.Device.{Device}
 use Rattle.machine.specs.declared.Ledger.{Ledger}
 use Rattle.machine.specs.declared.Closing.{Closing}
 use Rattle.machine.specs.declared.Machine.{Machine}
-use Rattle.machine.specs.Fields.{withBurst}
+use Rattle.machine.specs.Fields.{withDevice, withBurst}
 use Rattle.machine.specs.State.{fresh, noConversion, runs, isOpen, isThere, isUnread}
 use Rattle.machine.specs.Counts.{begunIf, deliveredIf, overwrittenIf}
-use Rattle.machine.specs.Data.{stored}
+use Rattle.machine.specs.Control.{phaseAfter}
 use Rattle.machine.specs.Events.{showing, delivering, waitingShown, ended, wholeClosing, awake, closed}
 use Rattle.machine.specs.declared.Event.{Event}
 use Rattle.machine.specs.declared.Event.the-variants.{Power, Copied}
 use Rattle.machine.specs.Event.{next, after}
+use Rattle.ledger.specs.Device.{deviceIn}
 use Rattle.ledger.specs.Told.{history}
-use Rattle.ledger.specs.Alive.{Turn, Fits, codesOf, byWrite, byWake, measured, Begins, Delivers, MayBeginByWrite, WriteRunsTruly, MayBeginByWake, WakeRunsTruly}
+use Rattle.ledger.specs.Alive.{Turn, Fits, IsForced, codesOf, byWrite, byWake, measured, Begins, Delivers, MayBeginByWrite, WriteRunsTruly, MayBeginByWake, WakeRunsTruly}
+use Rattle.ledger.specs.Alive.{MayWriteInStandby, LatchRunsTruly}
 use Rattle.ledger.proofs.Book.{nonzero-pos}
 use Rattle.ledger.proofs.Right.{none-waits}
+use Rattle.ledger.proofs.Laid.{lays}
 use Rattle.ledger.proofs.Kept.{kept}
 use Rattle.ledger.proofs.Theorems.{counts-are-true}
 use Rattle.ledger.proofs.Tests.{passed}
-use Rattle.ledger.proofs.Turn.{begun, controlledBy, mode-runs, write-begins, wake-begins, read-from, closes}
+use Rattle.ledger.proofs.Turn.{begun, controlledBy, mode-runs, write-begins, write-latches, wake-begins, read-from, closes}
 
 -- ---- the close of a turn
 
@@ -56,7 +62,7 @@ one-more false l p = (refl, omega arith)
 pub delivers : (m : Machine) (t : Turn) → Fits t → runs (m .device .phase) ≡ true → m .device .held ≡ Nothing → m .burst ≡ Closed → m .waiting ≡ noConversion
     → 1 ≤ m .ledger .begun → m .ledger .delivered < reg.mostBegun
     → let x = closed (after m (measured t)) (t .lent) in Delivers (m .ledger .begun) (m .ledger .delivered + 1) (m .device .codes) t (x .0) (x .1)
-unfolding showing stored
+unfolding showing
 delivers m t f u n b w some space =
     let l = ledger-after m t w some in
     let o = one-more (isUnread (m .shown)) (m .ledger) space in
@@ -65,7 +71,7 @@ delivers m t f u n b w some space =
       whole-is = refl;
       number-is = refl;
       codes-are = refl;
-      bytes-are = refl;
+      bytes-are = lays (m .device) (t .temperature) (t .pressure) (t .humidity);
       not-before = refl;
       begun-is = ap (λ (l : Ledger). l .begun) l ∙ o .0;
       delivered-is = ap (λ (l : Ledger). l .delivered) l ∙ o .1;
@@ -78,7 +84,7 @@ module _ (es : List Event) where
   now = after fresh es
 
   -- where no burst is open none waits
-  none-waiting : now .burst ≡ Closed → now .waiting ≡ noConversion
+  pub none-waiting : now .burst ≡ Closed → now .waiting ≡ noConversion
   none-waiting b = let k = kept es in k .tidy .none-waits (k .right .waits-is ∙ none-waits (history es) (sym (k .right .open-is) ∙ ap isOpen b))
 
   none-held : runs (now .device .phase) ≡ false → now .device .held ≡ Nothing
@@ -88,37 +94,64 @@ module _ (es : List Event) where
   begun-more l = omega arith
 
   -- a machine r that has just begun one more
-  turns : (t : Turn) (r : Machine) (c : Codes) → Fits t → runs (r .device .phase) ≡ true → r .device .held ≡ Nothing → r .burst ≡ Closed → r .waiting ≡ noConversion
-      → r .device .codes ≡ c → r .ledger ≡ begunIf true (now .ledger) → now .ledger .begun < reg.mostBegun
+  pub turns : (t : Turn) (r : Machine) (c : Codes) → Fits t → runs (r .device .phase) ≡ true → r .device .held ≡ Nothing → r .burst ≡ Closed → r .waiting ≡ noConversion
+      → r .device .codes ≡ c → r .ledger .begun ≡ now .ledger .begun + 1 → r .ledger .delivered ≡ now .ledger .delivered → now .ledger .begun < reg.mostBegun
       → let x = closed (after r (measured t)) (t .lent) in Delivers (now .ledger .begun + 1) (now .ledger .delivered + 1) c t (x .0) (x .1)
-  turns t r c f u n b w q e l =
+  turns t r c f u n b w q begun-is delivered-is l =
       let sum = counts-are-true es .sum-is in
-      let begun-is : r .ledger .begun ≡ now .ledger .begun + 1 = ap (λ (l : Ledger). l .begun) e ∙ begun-more l in
-      let delivered-is : r .ledger .delivered ≡ now .ledger .delivered = ap (λ (l : Ledger). l .delivered) e in
       rw (← begun-is, ← delivered-is, ← q) (delivers r t f u n b w (omega arith) (omega arith))
 
-  -- forced or normal, by a write
-  pub write-runs-truly : (t : Turn) → Fits t → MayBeginByWrite now t → WriteRunsTruly now t
-  write-runs-truly t f a =
-      let l = a .has-room in
+  -- by a write, in the phase p
+  writes : (p : Phase) → runs p ≡ false → (t : Turn) → Fits t → runs (phaseAfter p (t .f4)) ≡ true
+      → now .device .phase ≡ p → now .device .copying ≡ false → now .burst ≡ Closed → now .ledger .begun < reg.mostBegun → WriteRunsTruly now t
+  writes p idle t f v q c b l =
       let r : Machine = begun now (controlledBy t (now .device)) in
-      let e : after now (byWrite t) ≡ r = write-begins now t l (a .asks) (a .sleeps) (a .not-copying) (a .none-open) in
-      let u : runs (r .device .phase) ≡ true = rw (a .sleeps) (mode-runs (t .f4) (a .asks)) in
+      let e : after now (byWrite t) ≡ r = write-begins now t p idle v l q c b in
+      let u : runs (r .device .phase) ≡ true = rw q v in
       record {
         begins = subst (λ (k : Machine). Begins now k (codesOf t)) (sym e) (record { begun-is = begun-more l; runs-now = u; codes-are = refl });
         delivers = subst (λ (k : Machine). let x = closed (after k (measured t)) (t .lent) in Delivers (now .ledger .begun + 1) (now .ledger .delivered + 1) (codesOf t) t (x .0) (x .1))
-            (sym e) (turns t r (codesOf t) f u refl (a .none-open) (none-waiting (a .none-open)) refl refl l);
+            (sym e) (turns t r (codesOf t) f u refl b (none-waiting b) refl (begun-more l) refl l);
       }
 
-  -- normal, by a wake
-  pub wake-runs-truly : (t : Turn) → Fits t → MayBeginByWake now → WakeRunsTruly now t
+  -- forced or normal, by a write in sleep; forced, by a write in standby
+  pub write-runs-truly : (t : Turn) → Fits t → MayBeginByWrite now t → WriteRunsTruly now t
+  write-runs-truly t f a = writes Sleep refl t f (mode-runs Sleep (t .f4) (a .asks) (λ _. refl)) (a .sleeps) (a .not-copying) (a .none-open) (a .has-room)
+
+  pub standby-runs-truly : (t : Turn) → Fits t → IsForced t → MayWriteInStandby now → WriteRunsTruly now t
+  standby-runs-truly t f i a =
+      let w = a .may-wake in
+      writes Standby refl t f (mode-runs Standby (t .f4) (i .not-sleep) (λ e. absurd (i .not-normal e))) (w .stands-by) (a .not-copying) (w .none-open) (w .has-room)
+
+  -- normal, by a wake, with the codes that the history has latched
+  pub wake-runs-truly : (t : Turn) → Fits t → MayBeginByWake now → WakeRunsTruly now (deviceIn (history es) .codes) t
   wake-runs-truly t f a =
       let l = a .has-room in
+      let c : Codes = deviceIn (history es) .codes in
+      let c-is : now .device .codes ≡ c = ap (λ (d : Device). d .codes) (kept es .device-is) in
       let e : after now byWake ≡ awake now = wake-begins now (a .stands-by) l in
       record {
-        begins = subst (λ (k : Machine). Begins now k (now .device .codes)) (sym e) (record { begun-is = begun-more l; runs-now = refl; codes-are = refl });
-        delivers = subst (λ (k : Machine). let x = closed (after k (measured t)) (t .lent) in Delivers (now .ledger .begun + 1) (now .ledger .delivered + 1) (now .device .codes) t (x .0) (x .1))
-            (sym e) (turns t (awake now) (now .device .codes) f refl (none-held (ap runs (a .stands-by))) (a .none-open) (none-waiting (a .none-open)) refl refl l);
+        begins = subst (λ (k : Machine). Begins now k c) (sym e) (record { begun-is = begun-more l; runs-now = refl; codes-are = c-is });
+        delivers = subst (λ (k : Machine). let x = closed (after k (measured t)) (t .lent) in Delivers (now .ledger .begun + 1) (now .ledger .delivered + 1) c t (x .0) (x .1))
+            (sym e) (turns t (awake now) c f refl (none-held (ap runs (a .stands-by))) (a .none-open) (none-waiting (a .none-open)) c-is (begun-more l) refl l);
+      }
+
+  -- normal, by a wake after a write in standby
+  pub latch-runs-truly : (t : Turn) → Fits t → t .f4 % 4 ≡ 3 → MayWriteInStandby now → LatchRunsTruly now t
+  latch-runs-truly t f i a =
+      let w = a .may-wake in
+      let l = w .has-room in
+      let s : phaseAfter Standby (t .f4) ≡ Standby = rw i in
+      let k : Machine = withDevice (controlledBy t (now .device)) now in
+      let k-is : after now (byWrite t) ≡ k = write-latches now t Standby refl (ap runs s) (w .stands-by) (a .not-copying) (w .none-open) in
+      let stands-by : k .device .phase ≡ Standby = rw (w .stands-by) s in
+      let e : after now (byWrite t ++ byWake) ≡ awake k = ap (λ (k : Machine). after k byWake) k-is ∙ wake-begins k stands-by l in
+      record {
+        stands-by = ap (λ (k : Machine). k .device .phase) k-is ∙ stands-by;
+        none-begins = ap (λ (k : Machine). k .ledger) k-is;
+        begins = subst (λ (k : Machine). Begins now k (codesOf t)) (sym e) (record { begun-is = begun-more l; runs-now = refl; codes-are = refl });
+        delivers = subst (λ (k : Machine). let x = closed (after k (measured t)) (t .lent) in Delivers (now .ledger .begun + 1) (now .ledger .delivered + 1) (codesOf t) t (x .0) (x .1))
+            (sym e) (turns t (awake k) (codesOf t) f refl refl (w .none-open) (none-waiting (w .none-open)) refl (begun-more l) refl l);
       }
 
 -- and no state is without a way on: after power and the end of copying a write begins the next

@@ -14,8 +14,10 @@ use Rattle.machine.specs.declared.Event.{Event}
 use Rattle.machine.specs.declared.Event.the-variants.{Copied, Write, Finish, Wake, Open, Byte, Close}
 use Rattle.machine.specs.Event.{after}
 use Rattle.machine.specs.Bench.{lent}
-use Rattle.ledger.specs.History.{Happening, began, finished, lost, opened, gave, wholeIn, delivered, overwritten, abandoned, standing}
-use Rattle.ledger.specs.History as hist
+use Rattle.ledger.specs.Happening as hap
+use Rattle.ledger.specs.Happening.{tookF4, Happening, began, finished, lost, opened, gave, changed}
+use Rattle.ledger.specs.Bytes.{dataBytes}
+use Rattle.ledger.specs.History.{givenIn, wholeIn, delivered, overwritten, abandoned, standing}
 use Rattle.ledger.specs.Told.{history}
 
 abbrev three : List Event
@@ -24,36 +26,55 @@ three = Byte ∷ Byte ∷ Byte ∷ []
 abbrev eight : List Event
 eight = three ++ three ++ Byte ∷ Byte ∷ []
 
--- copied, write F4 0x27, finish, wake, open F7, finish, some bytes, close
+-- copied, write F4 0x27, finish, wake, open F7, finish, some bytes
+abbrev unclosed : List Event → List Event
+unclosed bytes = Copied ∷ Write reg.ctrlMeas 0x27 ∷ Finish 519888 415148 0 ∷ Wake ∷ Open reg.firstData ∷ Finish 1 2 3 ∷ [] ++ bytes
+
+-- and close
 abbrev measuredTwice : List Event → List Event
-measuredTwice bytes =
-    Copied ∷ Write reg.ctrlMeas 0x27 ∷ Finish 519888 415148 0 ∷ Wake ∷ Open reg.firstData ∷ Finish 1 2 3 ∷ [] ++ bytes ++ Close (length lent) ∷ []
+measuredTwice bytes = unclosed bytes ++ Close (length lent) ∷ []
 
 -- 0x27: temperature and pressure once each, humidity skipped
 abbrev codes : Codes
 codes = record { temperature = 1; pressure = 1; humidity = 0 }
 
-abbrev first : List ℕ
-first = 0x65 ∷ 0x5A ∷ 0xC0 ∷ 0x7E ∷ 0xED ∷ 0x00 ∷ 0x80 ∷ 0x00 ∷ []
+first-bytes : dataBytes codes 519888 415148 0 ≡ 0x65 ∷ 0x5A ∷ 0xC0 ∷ 0x7E ∷ 0xED ∷ 0x00 ∷ 0x80 ∷ 0x00 ∷ []
+unfolding dataBytes
+first-bytes = refl
 
-abbrev second : List ℕ
-second = 0x00 ∷ 0x00 ∷ 0x20 ∷ 0x00 ∷ 0x00 ∷ 0x10 ∷ 0x80 ∷ 0x00 ∷ []
+second-bytes : dataBytes codes 1 2 3 ≡ 0x00 ∷ 0x00 ∷ 0x20 ∷ 0x00 ∷ 0x00 ∷ 0x10 ∷ 0x80 ∷ 0x00 ∷ []
+unfolding dataBytes
+second-bytes = refl
+
+-- temperature skipped: its count is left out; and a count of 0x80000 in pressure is a count like any other
+skipped-bytes : dataBytes (record { temperature = 0; pressure = 1; humidity = 5 }) 0xFFFFF 0x80000 0xABCD ≡ 0x80 ∷ 0x00 ∷ 0x00 ∷ 0x80 ∷ 0x00 ∷ 0x00 ∷ 0xAB ∷ 0xCD ∷ []
+unfolding dataBytes
+skipped-bytes = refl
 
 -- up to the burst's bytes, the latest first
 abbrev started : List Happening
-started = finished second ∷ opened ∷ began codes ∷ finished first ∷ began codes ∷ []
+started = finished 1 2 3 ∷ opened reg.firstData ∷ began ∷ finished 519888 415148 0 ∷ began ∷ changed (tookF4 0x27) ∷ changed hap.copied ∷ []
 
 -- ---- K12: number 1 is delivered, and number 2 stands, shown unread
 
 abbrev k12 : List Happening
 k12 =
-    hist.closed ∷ gave 0xFE 0x00 ∷ gave 0xFD 0x80 ∷ gave 0xFC 0x00 ∷ gave 0xFB 0xED ∷ gave 0xFA 0x7E ∷ gave 0xF9 0xC0 ∷ gave 0xF8 0x5A ∷ gave 0xF7 0x65 ∷ started
+    hap.closed ∷ gave 0x00 ∷ gave 0x80 ∷ gave 0x00 ∷ gave 0xED ∷ gave 0x7E ∷ gave 0xC0 ∷ gave 0x5A ∷ gave 0x65 ∷ started
 
 K12-history : history (measuredTwice eight) ≡ k12
 unfolding effect heldEffect stored showing keeping delivering waitingShown
 K12-history = refl
 
--- the four fourPlaces of a conversion: delivered, overwritten, abandoned, standing
+-- its bytes are at F7 to FE
+K12-given : givenIn (history (unclosed eight)) ≡ (0xFE, 0x00) ∷ (0xFD, 0x80) ∷ (0xFC, 0x00) ∷ (0xFB, 0xED) ∷ (0xFA, 0x7E) ∷ (0xF9, 0xC0) ∷ (0xF8, 0x5A) ∷ (0xF7, 0x65) ∷ []
+unfolding effect heldEffect stored showing keeping delivering waitingShown
+K12-given = refl
+
+-- a burst opened at F5 gives F5, F6 and F7
+from-f5 : givenIn (history (Copied ∷ Open reg.config ∷ [] ++ three)) ≡ (0xF7, 0x80) ∷ (0xF6, 0x00) ∷ (0xF5, 0x00) ∷ []
+from-f5 = refl
+
+-- the four places of a conversion: delivered, overwritten, abandoned, standing
 abbrev fourPlaces : List Happening → ℕ → List Bool
 fourPlaces h k = delivered h k ∷ overwritten h k ∷ abandoned h k ∷ standing h k ∷ []
 
@@ -68,7 +89,7 @@ K12-second = refl
 -- ---- K13: number 1 is overwritten, and number 2 stands
 
 abbrev k13 : List Happening
-k13 = hist.closed ∷ gave 0xF9 0xC0 ∷ gave 0xF8 0x5A ∷ gave 0xF7 0x65 ∷ started
+k13 = hap.closed ∷ gave 0xC0 ∷ gave 0x5A ∷ gave 0x65 ∷ started
 
 K13-history : history (measuredTwice three) ≡ k13
 unfolding effect heldEffect stored showing keeping delivering waitingShown
@@ -91,9 +112,9 @@ abbrev worked : List Event
 worked = measuredTwice eight ++ burst ++ burst ++ Wake ∷ Write reg.reset reg.resetWord ∷ []
 
 abbrev read : List Happening
-read = hist.closed ∷ gave 0xFE 0x00 ∷ gave 0xFD 0x80 ∷ gave 0xFC 0x10 ∷ gave 0xFB 0x00 ∷ gave 0xFA 0x00 ∷ gave 0xF9 0x20 ∷ gave 0xF8 0x00 ∷ gave 0xF7 0x00 ∷ opened ∷ []
+read = hap.closed ∷ gave 0x00 ∷ gave 0x80 ∷ gave 0x10 ∷ gave 0x00 ∷ gave 0x00 ∷ gave 0x20 ∷ gave 0x00 ∷ gave 0x00 ∷ opened reg.firstData ∷ []
 
-worked-history : history worked ≡ lost ∷ began codes ∷ [] ++ read ++ read ++ k12
+worked-history : history worked ≡ lost ∷ began ∷ [] ++ read ++ read ++ k12
 unfolding effect heldEffect stored showing keeping delivering waitingShown
 worked-history = refl
 

@@ -2,22 +2,23 @@
 use Prim.Native.Nat.{ℕ, _+_, _-_, _≤_}
 use mathlib.Core.Path.{_≡_, refl}
 use mathlib.Core.Bool.{Bool, true, false, not, cond, _&&_, and-not-self}
-use mathlib.Core.List.{List}
 use native.Mathlib.Omega.{arith}
 use lib.Dec.{eqb}
 use borrow.Author.Tests.{ne-eqb, not-false, eqb-true}
 use Rattle.machine.specs.declared.Codes.{Codes}
 use Rattle.machine.specs.declared.Ledger.{Ledger}
-use Rattle.machine.specs.State.{noCodes, noCounts}
-use Rattle.ledger.specs.History.{Happening, began, finished, lost, opened, gave, closed, Reading, noReading, bit}
+use Rattle.ledger.specs.Happening.{Happening, began, finished, lost, opened, gave, closed, changed}
+use Rattle.ledger.specs.Device.{zeroCodes}
+use Rattle.ledger.specs.Bytes.{dataBytes}
+use Rattle.ledger.specs.History.{Measurement, noMeasurement, bit}
 
 -- burst: one is open; read: the shown one was delivered
 pub record Book : Type 0 where
   pub burst : Bool
   pub codes : Codes
-  pub shown : Reading
+  pub shown : Measurement
   pub read : Bool
-  pub waiting : Reading
+  pub waiting : Measurement
   pub ledger : Ledger
 
 abbrev pub nonzero : ℕ → Bool
@@ -29,19 +30,19 @@ nonzero-pos n l = rw (ne-eqb n 0 (λ e. omega arith))
 pub nonzero-zero : (n : ℕ) → nonzero n ≡ false → n ≡ 0
 nonzero-zero n e = eqb-true n 0 (not-false (eqb n 0) e)
 
-abbrev pub some : Reading → Bool
+abbrev pub some : Measurement → Bool
 some c = nonzero (c .number)
 
 abbrev pub unread : Book → Bool
 unread b = some (b .shown) && not (b .read)
 
 -- the waiting one, or else the shown one
-abbrev pub latest : Book → Reading
+abbrev pub latest : Book → Measurement
 latest b = cond (some (b .waiting)) (b .waiting) (b .shown)
 
--- the running conversion, with its bytes
-abbrev pub made : Book → List ℕ → Reading
-made b bs = record { number = b .ledger .begun; codes = b .codes; bytes = bs }
+-- the running conversion, with its bytes by the codes that it began with
+abbrev pub made : Book → ℕ → ℕ → ℕ → Measurement
+made b x y z = record { number = b .ledger .begun; codes = b .codes; bytes = dataBytes (b .codes) x y z }
 
 -- ---- the counts
 
@@ -66,65 +67,71 @@ abandons l = counts (l .begun) (l .delivered) (l .overwritten) (l .abandoned + l
 -- ---- the entries
 
 abbrev pub fresh : Book
-fresh = record { burst = false; codes = noCodes; shown = noReading; read = false; waiting = noReading; ledger = noCounts }
+fresh = record { burst = false; codes = zeroCodes; shown = noMeasurement; read = false; waiting = noMeasurement; ledger = counts 0 0 0 0 0 }
 
--- g: the burst gave all of F7 to FE
-abbrev pub enter : Happening → Bool → Book → Book
-enter (began c) g b = record { burst = b .burst; codes = c; shown = b .shown; read = b .read; waiting = b .waiting; ledger = begins (b .ledger) }
-enter (finished bs) g b =
+abbrev relatched : Codes → Book → Book
+relatched c b = record { burst = b .burst; codes = c; shown = b .shown; read = b .read; waiting = b .waiting; ledger = b .ledger }
+
+-- g: the burst gave all of F7 to FE; c: the codes that are latched after it
+abbrev pub enter : Happening → Bool → Codes → Book → Book
+enter began g c b = record { burst = b .burst; codes = c; shown = b .shown; read = b .read; waiting = b .waiting; ledger = begins (b .ledger) }
+enter (finished x y z) g c b =
     cond (b .burst)
-    (record { burst = true; codes = b .codes; shown = b .shown; read = b .read; waiting = made b bs; ledger = overwrites (bit (some (b .waiting))) (b .ledger) })
-    (record { burst = false; codes = b .codes; shown = made b bs; read = false; waiting = noReading; ledger = overwrites (bit (unread b)) (b .ledger) })
-enter lost g b = record { burst = false; codes = noCodes; shown = noReading; read = false; waiting = noReading; ledger = abandons (b .ledger) }
-enter opened g b = record { burst = true; codes = b .codes; shown = b .shown; read = b .read; waiting = b .waiting; ledger = b .ledger }
-enter (gave a v) g b = b
-enter closed true b = record {
+    (record { burst = true; codes = c; shown = b .shown; read = b .read; waiting = made b x y z; ledger = overwrites (bit (some (b .waiting))) (b .ledger) })
+    (record { burst = false; codes = c; shown = made b x y z; read = false; waiting = noMeasurement; ledger = overwrites (bit (unread b)) (b .ledger) })
+enter lost g c b = record { burst = false; codes = c; shown = noMeasurement; read = false; waiting = noMeasurement; ledger = abandons (b .ledger) }
+enter (opened i) g c b = record { burst = true; codes = c; shown = b .shown; read = b .read; waiting = b .waiting; ledger = b .ledger }
+enter (gave v) g c b = relatched c b
+enter (changed x) g c b = relatched c b
+enter closed true c b = record {
   burst = false;
-  codes = b .codes;
+  codes = c;
   shown = latest b;
   read = not (some (b .waiting)) && some (b .shown);
-  waiting = noReading;
+  waiting = noMeasurement;
   ledger = delivers (bit (unread b)) (b .ledger);
 }
-enter closed false b = record {
+enter closed false c b = record {
   burst = false;
-  codes = b .codes;
+  codes = c;
   shown = latest b;
   read = not (some (b .waiting)) && b .read;
-  waiting = noReading;
+  waiting = noMeasurement;
   ledger = overwrites (bit (some (b .waiting) && unread b)) (b .ledger);
 }
 
 -- what a happening asks: u, a conversion is running; o, a burst is open
 abbrev pub Asks : Happening → Bool → Bool → Type 0
-Asks (began c) u o = u ≡ false
-Asks (finished bs) u o = u ≡ true
+Asks began u o = u ≡ false
+Asks (finished x y z) u o = u ≡ true
 Asks lost u o = Unit {0}
-Asks opened u o = o ≡ false
-Asks (gave a v) u o = o ≡ true
+Asks (opened i) u o = o ≡ false
+Asks (gave v) u o = o ≡ true
+Asks (changed x) u o = Unit {0}
 Asks closed u o = o ≡ true
 
 -- is one running after it
 abbrev pub runs : Happening → Bool → Bool
-runs (began c) u = true
-runs (finished bs) u = false
+runs began u = true
+runs (finished x y z) u = false
 runs lost u = false
-runs opened u = u
-runs (gave a v) u = u
+runs (opened i) u = u
+runs (gave v) u = u
+runs (changed x) u = u
 runs closed u = u
 
 -- ---- what is unread after a close: the one that waited; after a partial one, if none waited, what was unread
 
-pub unread-whole : (b : Book) → bit (unread (enter closed true b)) ≡ bit (some (b .waiting))
-unread-whole b = at (some (b .waiting)) refl
+pub unread-whole : (c : Codes) (b : Book) → bit (unread (enter closed true c b)) ≡ bit (some (b .waiting))
+unread-whole c b = at (some (b .waiting)) refl
   where
-    at : (w : Bool) → some (b .waiting) ≡ w → bit (unread (enter closed true b)) ≡ bit (some (b .waiting))
+    at : (w : Bool) → some (b .waiting) ≡ w → bit (unread (enter closed true c b)) ≡ bit (some (b .waiting))
     at true e = rw (e, e)
     at false e = rw (e, and-not-self)
 
-pub unread-partial : (b : Book) → bit (some (b .waiting) && unread b) + bit (unread (enter closed false b)) ≡ bit (some (b .waiting)) + bit (unread b)
-unread-partial b = at (some (b .waiting)) refl
+pub unread-partial : (c : Codes) (b : Book) → bit (some (b .waiting) && unread b) + bit (unread (enter closed false c b)) ≡ bit (some (b .waiting)) + bit (unread b)
+unread-partial c b = at (some (b .waiting)) refl
   where
-    at : (w : Bool) → some (b .waiting) ≡ w → bit (some (b .waiting) && unread b) + bit (unread (enter closed false b)) ≡ bit (some (b .waiting)) + bit (unread b)
+    at : (w : Bool) → some (b .waiting) ≡ w → bit (some (b .waiting) && unread b) + bit (unread (enter closed false c b)) ≡ bit (some (b .waiting)) + bit (unread b)
     at true e = rw (e, e) (omega arith)
     at false e = rw e

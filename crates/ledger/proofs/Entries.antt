@@ -15,19 +15,26 @@ use Rattle.machine.specs.Fields.{withDevice, withBurst, withWaiting, withLedger
 use Rattle.machine.specs.State.{noConversion, freshWith, runs, isOpen, isThere, isUnread}
 use Rattle.machine.specs.Counts.{begunIf, deliveredIf, overwrittenIf, abandonedAll}
 use Rattle.machine.specs.Events.{reset, finishedOne, showing, keeping, landed, delivering, waitingShown, ended}
-use Rattle.ledger.specs.History.{Happening, began, finished, lost, closed, Reading, bit}
+use Rattle.ledger.specs.Happening.{Happening, began, finished, lost, closed}
+use Rattle.ledger.specs.Device.{zeroCodes}
+use Rattle.ledger.specs.Bytes.{dataBytes}
+use Rattle.ledger.specs.History.{Measurement, bit}
 use Rattle.ledger.proofs.Book.{Book, enter, same-ledger, begins, delivers, overwrites, abandons}
 use Rattle.ledger.proofs.Right.{Right, right-sum}
 
-abbrev pub reading : Conversion → Reading
-reading c = record { number = c .number; codes = c .codes; bytes = c .bytes }
+abbrev pub measurement : Conversion → Measurement
+measurement c = record { number = c .number; codes = c .codes; bytes = c .bytes }
 
 abbrev pub book : Machine → Book
-book m = record { burst = isOpen (m .burst); codes = m .device .codes; shown = reading (m .shown); read = m .shown .delivered; waiting = reading (m .waiting); ledger = m .ledger }
+book m = record { burst = isOpen (m .burst); codes = m .device .codes; shown = measurement (m .shown); read = m .shown .delivered; waiting = measurement (m .waiting); ledger = m .ledger }
 
 -- a conversion is running
 abbrev pub busy : Machine → Bool
 busy m = runs (m .device .phase)
+
+-- the running conversion lands with the bytes of the three counts, and the device goes on as d
+abbrev pub lands : Machine → Device → ℕ → ℕ → ℕ → Machine
+lands m d x y z = withDevice d (landed (finishedOne m (dataBytes (m .device .codes) x y z)) m)
 
 -- what holds of the machine besides what the book says
 pub record Tidy (m : Machine) : Type 0 where
@@ -62,38 +69,38 @@ module _ (m : Machine) (h : List Happening) (t : Tidy m) (r : Right (busy m) (bo
   sum : m .ledger .delivered + m .ledger .overwritten + m .ledger .abandoned + m .ledger .standing ≡ m .ledger .begun
   sum = right-sum (busy m) (book m) h r
 
-  pub enters-lost : (g : Bool) → book (reset m) ≡ enter lost g (book m)
+  pub enters-lost : (g : Bool) → book (reset m) ≡ enter lost g zeroCodes (book m)
   enters-lost g = ap (λ (l : Ledger). book (freshWith l)) (abandoned-more (m .ledger) (omega (arith, t .small, sum)))
 
   -- the device goes on as d
   pub enters-began : (g : Bool) (d : Device) → m .ledger .begun < mostBegun
-      → book (withDevice d (withLedger (begunIf true (m .ledger)) m)) ≡ enter (began (d .codes)) g (book m)
+      → book (withDevice d (withLedger (begunIf true (m .ledger)) m)) ≡ enter began g (d .codes) (book m)
   enters-began g d p = ap (λ (l : Ledger). book (withDevice d (withLedger l m))) (begun-more (m .ledger) p (omega (arith, sum)))
 
-  pub enters-finished : (g : Bool) (d : Device) (bs : List ℕ) → d .codes ≡ m .device .codes → (isOpen (m .burst) ≡ false → isThere (m .waiting) ≡ false)
-      → book (withDevice d (landed (finishedOne m bs) m)) ≡ enter (finished bs) g (book m)
+  pub enters-finished : (g : Bool) (d : Device) (x y z : ℕ) → (isOpen (m .burst) ≡ false → isThere (m .waiting) ≡ false)
+      → book (lands m d x y z) ≡ enter (finished x y z) g (d .codes) (book m)
   unfolding keeping showing
-  enters-finished g d bs q idle = at (isOpen (m .burst)) refl
+  enters-finished g d x y z idle = at (isOpen (m .burst)) refl
     where
-      at : (o : Bool) → isOpen (m .burst) ≡ o → book (withDevice d (landed (finishedOne m bs) m)) ≡ enter (finished bs) g (book m)
-      at true e = rw (e, q, t .unread-waits, and-true, overwritten-more (isThere (m .waiting)) (m .ledger) (omega (arith, t .small, sum, r .standing-is)), e)
-      at false e = rw (e, q, t .none-waits (idle e), overwritten-more (isUnread (m .shown)) (m .ledger) (omega (arith, t .small, sum, r .standing-is)), e)
+      at : (o : Bool) → isOpen (m .burst) ≡ o → book (lands m d x y z) ≡ enter (finished x y z) g (d .codes) (book m)
+      at true e = rw (e, t .unread-waits, and-true, overwritten-more (isThere (m .waiting)) (m .ledger) (omega (arith, t .small, sum, r .standing-is)), e)
+      at false e = rw (e, t .none-waits (idle e), overwritten-more (isUnread (m .shown)) (m .ledger) (omega (arith, t .small, sum, r .standing-is)), e)
 
-  pub enters-partial : book (ended m) ≡ enter closed false (book m)
+  pub enters-partial : book (ended m) ≡ enter closed false (m .device .codes) (book m)
   unfolding showing waitingShown
   enters-partial = at (isThere (m .waiting)) refl
     where
-      at : (w : Bool) → isThere (m .waiting) ≡ w → book (ended m) ≡ enter closed false (book m)
+      at : (w : Bool) → isThere (m .waiting) ≡ w → book (ended m) ≡ enter closed false (m .device .codes) (book m)
       at true e = rw (e, t .unread-waits, overwritten-more (isUnread (m .shown)) (m .ledger) (omega (arith, t .small, sum, r .standing-is)))
       at false e = rw e (ap₂ (λ (w : Conversion) (l : Ledger). book (withBurst Closed (withWaiting w (withLedger l m)))) (t .none-waits e) (overwritten-none (m .ledger)))
 
-  pub enters-whole : book (ended (delivering m)) ≡ enter closed true (book m)
+  pub enters-whole : book (ended (delivering m)) ≡ enter closed true (m .device .codes) (book m)
   unfolding showing delivering waitingShown
   enters-whole = at (isThere (m .waiting)) refl
     where
       more : deliveredIf (isUnread (m .shown)) (m .ledger) ≡ delivers (bit (isUnread (m .shown))) (m .ledger)
       more = delivered-more (isUnread (m .shown)) (m .ledger) (omega (arith, t .small, sum, r .standing-is))
 
-      at : (w : Bool) → isThere (m .waiting) ≡ w → book (ended (delivering m)) ≡ enter closed true (book m)
+      at : (w : Bool) → isThere (m .waiting) ≡ w → book (ended (delivering m)) ≡ enter closed true (m .device .codes) (book m)
       at true e = rw (e, t .unread-waits, and-not-self (isThere (m .shown)), more)
       at false e = rw (e, t .none-waits e, more)

@@ -6,7 +6,8 @@ use mathlib.Core.List.{List, [], _∷_}
 use native.Mathlib.Omega.{arith}
 use lib.Dec.{eqb, eqb·zero-suc}
 use borrow.Author.Tests.{eqb-true, ne-eqb}
-use Rattle.ledger.specs.History.{Happening, began, finished, lost, opened, gave, closed, begunIn, openIn, wholeIn, waitsIn}
+use Rattle.ledger.specs.Happening.{Happening, began, finished, lost, opened, gave, closed, changed}
+use Rattle.ledger.specs.History.{begunIn, openIn, wholeIn, waitsIn}
 use Rattle.ledger.specs.History.{Where, unbegun, running, waiting, shown, gone, finishes, closes, loses, whereIs, isBegun, isPresent, isLoss, delivers, finds, replaces}
 use Rattle.ledger.specs.History.{delivered, abandoned, overwritten, lostSince, standing}
 
@@ -49,11 +50,12 @@ sightOf Abandoned = sight gone false false true
 
 -- One happening. o: a burst is open; g: it gave all of F7 to FE; w: a conversion waits; n: this conversion is the next to begin.
 abbrev moved : Happening → Bool → Bool → Bool → Where → Where
-moved (began c) o w n p = cond n running p
-moved (finished bs) o w n p = finishes o p
+moved began o w n p = cond n running p
+moved (finished x y z) o w n p = finishes o p
 moved lost o w n p = loses p
-moved opened o w n p = p
-moved (gave a v) o w n p = p
+moved (opened i) o w n p = p
+moved (gave v) o w n p = p
+moved (changed c) o w n p = p
 moved closed o w n p = closes w p
 
 abbrev sees : Happening → Bool → Bool → Bool → Bool → Sight → Sight
@@ -64,23 +66,24 @@ sees x o g w n s =
     (s .abandoned || (finds x (s .at) && not (s .delivered)))
 
 seen-more : (x : Happening) (h : List Happening) (k : ℕ) → seen (x ∷ h) k ≡ sees x (openIn h) (wholeIn h) (waitsIn h) (eqb k (suc (begunIn h))) (seen h k)
-seen-more (began c) h k = refl
-seen-more (finished bs) h k = refl
+seen-more began h k = refl
+seen-more (finished x y z) h k = refl
 seen-more lost h k = refl
-seen-more opened h k = refl
-seen-more (gave a v) h k = refl
+seen-more (opened i) h k = refl
+seen-more (gave v) h k = refl
+seen-more (changed c) h k = refl
 seen-more closed h k = refl
 
 abbrev pub move : Happening → Bool → Bool → Bool → Bool → Fate → Fate
-move (began c) o g w n p = cond n Running p
-move (finished bs) o g w n Unbegun = Unbegun
-move (finished bs) o g w n Running = cond o Waiting Unread
-move (finished bs) o g w n Waiting = Overwritten
-move (finished bs) o g w n Unread = cond o Unread Overwritten
-move (finished bs) o g w n Read = cond o Read Delivered
-move (finished bs) o g w n Delivered = Delivered
-move (finished bs) o g w n Overwritten = Overwritten
-move (finished bs) o g w n Abandoned = Abandoned
+move began o g w n p = cond n Running p
+move (finished x y z) o g w n Unbegun = Unbegun
+move (finished x y z) o g w n Running = cond o Waiting Unread
+move (finished x y z) o g w n Waiting = Overwritten
+move (finished x y z) o g w n Unread = cond o Unread Overwritten
+move (finished x y z) o g w n Read = cond o Read Delivered
+move (finished x y z) o g w n Delivered = Delivered
+move (finished x y z) o g w n Overwritten = Overwritten
+move (finished x y z) o g w n Abandoned = Abandoned
 move lost o g w n Unbegun = Unbegun
 move lost o g w n Running = Abandoned
 move lost o g w n Waiting = Abandoned
@@ -89,8 +92,9 @@ move lost o g w n Read = Delivered
 move lost o g w n Delivered = Delivered
 move lost o g w n Overwritten = Overwritten
 move lost o g w n Abandoned = Abandoned
-move opened o g w n p = p
-move (gave a v) o g w n p = p
+move (opened i) o g w n p = p
+move (gave v) o g w n p = p
+move (changed c) o g w n p = p
 move closed o g w n Unbegun = Unbegun
 move closed o g w n Running = Running
 move closed o g w n Waiting = Unread
@@ -109,34 +113,37 @@ Fits x o g w n p = sees x o g w n (sightOf p) ≡ sightOf (move x o g w n p)
 
 -- each move is, in the definitions' sight, their own
 fits : (x : Happening) (o g w n : Bool) (p : Fate) → (n ≡ true → p ≡ Unbegun) → Fits x o g w n p
-fits (began c) o g w true p e = subst (λ q. Fits (began c) o g w true q) (sym (e refl)) refl
-fits (began c) o g w false p e = every (Fits (began c) o g w false) refl refl refl refl refl refl refl refl p
-fits (finished bs) true g w n p e = every (Fits (finished bs) true g w n) refl refl refl refl refl refl refl refl p
-fits (finished bs) false g w n p e = every (Fits (finished bs) false g w n) refl refl refl refl refl refl refl refl p
+fits began o g w true p e = subst (λ q. Fits began o g w true q) (sym (e refl)) refl
+fits began o g w false p e = every (Fits began o g w false) refl refl refl refl refl refl refl refl p
+fits (finished x y z) true g w n p e = every (Fits (finished x y z) true g w n) refl refl refl refl refl refl refl refl p
+fits (finished x y z) false g w n p e = every (Fits (finished x y z) false g w n) refl refl refl refl refl refl refl refl p
 fits lost o g w n p e = every (Fits lost o g w n) refl refl refl refl refl refl refl refl p
-fits opened o g w n p e = every (Fits opened o g w n) refl refl refl refl refl refl refl refl p
-fits (gave a v) o g w n p e = every (Fits (gave a v) o g w n) refl refl refl refl refl refl refl refl p
+fits (opened i) o g w n p e = every (Fits (opened i) o g w n) refl refl refl refl refl refl refl refl p
+fits (gave v) o g w n p e = every (Fits (gave v) o g w n) refl refl refl refl refl refl refl refl p
+fits (changed c) o g w n p e = every (Fits (changed c) o g w n) refl refl refl refl refl refl refl refl p
 fits closed o true true n p e = every (Fits closed o true true n) refl refl refl refl refl refl refl refl p
 fits closed o true false n p e = every (Fits closed o true false n) refl refl refl refl refl refl refl refl p
 fits closed o false true n p e = every (Fits closed o false true n) refl refl refl refl refl refl refl refl p
 fits closed o false false n p e = every (Fits closed o false false n) refl refl refl refl refl refl refl refl p
 
 stays-unbegun : (x : Happening) (o g w : Bool) → move x o g w false Unbegun ≡ Unbegun
-stays-unbegun (began c) o g w = refl
-stays-unbegun (finished bs) o g w = refl
+stays-unbegun began o g w = refl
+stays-unbegun (finished x y z) o g w = refl
 stays-unbegun lost o g w = refl
-stays-unbegun opened o g w = refl
-stays-unbegun (gave a v) o g w = refl
+stays-unbegun (opened i) o g w = refl
+stays-unbegun (gave v) o g w = refl
+stays-unbegun (changed c) o g w = refl
 stays-unbegun closed o g w = refl
 
 -- a number above the last begun has not begun
 pub above : (h : List Happening) (k : ℕ) → begunIn h < k → fate h k ≡ Unbegun
 above [] k l = refl
-above (began c ∷ h) k l = rw (ne-eqb k (suc (begunIn h)) (λ e. omega arith)) (above h k (omega arith))
-above (finished bs ∷ h) k l = rw (above h k l)
+above (began ∷ h) k l = rw (ne-eqb k (suc (begunIn h)) (λ e. omega arith)) (above h k (omega arith))
+above (finished x y z ∷ h) k l = rw (above h k l)
 above (lost ∷ h) k l = rw (above h k l)
-above (opened ∷ h) k l = above h k l
-above (gave a v ∷ h) k l = above h k l
+above (opened i ∷ h) k l = above h k l
+above (gave v ∷ h) k l = above h k l
+above (changed c ∷ h) k l = above h k l
 above (closed ∷ h) k l = rw (above h k l)
 
 -- nor has 0
@@ -154,14 +161,15 @@ agree (x ∷ h) k =
 -- ---- what a reset or power event met after its beginning is gone, so that `standing` may leave it out
 
 stays-gone : (x : Happening) (h : List Happening) (k : ℕ) → whereIs h k ≡ gone → whereIs (x ∷ h) k ≡ gone
-stays-gone (began c) h k e =
+stays-gone began h k e =
     rw (ne-eqb k (suc (begunIn h)) (λ q. let z : sightOf (fate h k) .at ≡ gone = sym (ap (λ (s : Sight). s .at) (agree h k)) ∙ e in
     let y : unbegun ≡ gone = rw (above h k (omega arith)) at z in
     let o : _≡_ {A = ℕ} 0 1 = cc in omega arith)) e
-stays-gone (finished bs) h k e = rw e
+stays-gone (finished x y z) h k e = rw e
 stays-gone lost h k e = rw e
-stays-gone opened h k e = e
-stays-gone (gave a v) h k e = e
+stays-gone (opened i) h k e = e
+stays-gone (gave v) h k e = e
+stays-gone (changed c) h k e = e
 stays-gone closed h k e = rw e
 
 loses-begun : (w : Where) → isBegun w ≡ true → loses w ≡ gone
@@ -172,11 +180,12 @@ loses-begun shown e = refl
 loses-begun gone e = refl
 
 met : (x : Happening) (h : List Happening) (k : ℕ) → isLoss x && isBegun (whereIs h k) ≡ true → whereIs (x ∷ h) k ≡ gone
-met (began c) h k e = absurd (false≢true e)
-met (finished bs) h k e = absurd (false≢true e)
+met began h k e = absurd (false≢true e)
+met (finished x y z) h k e = absurd (false≢true e)
 met lost h k e = loses-begun (whereIs h k) e
-met opened h k e = absurd (false≢true e)
-met (gave a v) h k e = absurd (false≢true e)
+met (opened i) h k e = absurd (false≢true e)
+met (gave v) h k e = absurd (false≢true e)
+met (changed c) h k e = absurd (false≢true e)
 met closed h k e = absurd (false≢true e)
 
 lost-gone : (h : List Happening) (k : ℕ) → lostSince h k ≡ true → whereIs h k ≡ gone

@@ -1,12 +1,12 @@
--- What the open burst has given: the addresses from its first up to its next, so that the machine's test of a whole burst is the history's; and each data
--- byte is of the conversion that the burst shows.
+-- What the open burst has given: the addresses from the one asked for up to the machine's next, so that the machine's test of a whole burst is the history's;
+-- and each data byte is of the conversion that the burst shows.
 use Prim.Native.Nat.{ℕ, zero, suc, _+_, _-_, _≤_, _<_}
 use mathlib.Core.Path.{_≡_, refl, sym, _∙_}
 use mathlib.Core.Bool.{Bool, true, false, _&&_, _||_, false≢true}
 use mathlib.Core.List.{List, [], _∷_}
 use native.Mathlib.Omega.{arith}
 use lib.Dec.{eqb, leb, ltb}
-use lib.ListN.{getD}
+use lib.ListN.{getD, length}
 use borrow.Author.Tests.{leb-true, ltb-true, le-leb, lt-ltb, le-ltb, ne-eqb, eqb-true, eqb-false}
 use Rattle.paper.specs.Registers as reg
 use Rattle.machine.specs.declared.Burst.{Burst}
@@ -14,8 +14,9 @@ use Rattle.machine.specs.declared.Burst.the-variants.{Closed, Open}
 use Rattle.machine.specs.declared.Machine.{Machine}
 use Rattle.machine.specs.State.{isOpen}
 use Rattle.machine.specs.Data.{register}
-use Rattle.machine.specs.Events.{isWhole}
-use Rattle.ledger.specs.History.{Happening, givenIn, hasAddress, eachBelow, gaveData, wholeIn}
+use Rattle.machine.specs.Events.{isWhole, byteGiven}
+use Rattle.ledger.specs.Happening.{Happening}
+use Rattle.ledger.specs.History.{openedAt, givenIn, hasAddress, eachBelow, gaveData, wholeIn}
 use Rattle.ledger.proofs.Tests.{same-test, both, and-left, and-right}
 
 -- ---- addresses from i up to j
@@ -32,26 +33,35 @@ within-low i j a e = leb-true i a (and-left (leb i a) (ltb a j) e)
 within-high : (i j a : ℕ) → within i j a ≡ true → a < j
 within-high i j a e = ltb-true a j (and-right (leb i a) (ltb a j) e)
 
-pub record Spans (i j : ℕ) (l : List (ℕ × ℕ)) : Type 0 where
-  pub ordered : i ≤ j
+-- a burst from i, next at j, was opened at f and gave l
+pub record Spans (i j f : ℕ) (l : List (ℕ × ℕ)) : Type 0 where
+  pub first-is : i ≡ f
+  pub next-is : j ≡ f + length l
   pub given-is : (a : ℕ) → hasAddress a l ≡ within i j a
 
 -- of a machine's burst
-abbrev pub Spanned : Burst → List (ℕ × ℕ) → Type 0
-Spanned Closed l = Unit {0}
-Spanned (Open i j) l = Spans i j l
+abbrev pub Spanned : Burst → ℕ → List (ℕ × ℕ) → Type 0
+Spanned Closed f l = Unit {0}
+Spanned (Open i j) f l = Spans i j f l
 
-pub spans-opened : (a : ℕ) → Spans a a []
-spans-opened i = record { ordered = omega arith; given-is = none }
+pub spans-opened : (a : ℕ) → Spans a a a []
+spans-opened i = record { first-is = refl; next-is = omega arith; given-is = none }
   where
     none : (a : ℕ) → false ≡ within i i a
     none a = same-test false (within i i a) (λ e. absurd (false≢true e)) (λ e. absurd (omega (arith, within-low i i a e, within-high i i a e)))
 
-pub spans-gave : (i j v : ℕ) (l : List (ℕ × ℕ)) → Spans i j l → Spans i (j + 1) ((j, v) ∷ l)
-spans-gave i j v l s = record { ordered = omega (arith, s .ordered); given-is = λ a. rw (s .given-is a) (at a (eqb a j) refl) }
+pub spans-gave : (i j f v : ℕ) (l : List (ℕ × ℕ)) → Spans i j f l → Spans i (j + 1) f ((f + length l, v) ∷ l)
+spans-gave i j f v l s = record {
+  first-is = s .first-is;
+  next-is = omega (arith, s .next-is);
+  given-is = λ a. rw (← s .next-is, s .given-is a) (at a (eqb a j) refl);
+}
   where
+    ordered : i ≤ j
+    ordered = omega (arith, s .first-is, s .next-is)
+
     at : (a : ℕ) (t : Bool) → eqb a j ≡ t → (eqb a j || within i j a) ≡ within i (j + 1) a
-    at a true e = rw e (sym (within-from i (j + 1) a (omega (arith, eqb-true a j e, s .ordered)) (omega (arith, eqb-true a j e))))
+    at a true e = rw e (sym (within-from i (j + 1) a (omega (arith, eqb-true a j e, ordered)) (omega (arith, eqb-true a j e))))
     at a false e = rw e (same-test (within i j a) (within i (j + 1) a)
         (λ w. within-from i (j + 1) a (within-low i j a w) (omega (arith, within-high i j a w)))
         (λ w. let n = eqb-false a j e in within-from i j a (within-low i (j + 1) a w) (lt-of (within-high i (j + 1) a w) n)))
@@ -74,7 +84,7 @@ each-at (suc n) f e k l = at (eqb k n) refl (each-at n f (and-right (f n) (eachB
     at false q i = let z = eqb-false k n q in i (omega arith)
 
 -- the machine's test of a burst from i, next at j
-spans-whole : (i j : ℕ) (h : List Happening) → Spans i j (givenIn h) → isWhole (Open i j) ≡ wholeIn h
+spans-whole : (i j : ℕ) (h : List Happening) → Spans i j (openedAt h) (givenIn h) → isWhole (Open i j) ≡ wholeIn h
 unfolding wholeIn
 spans-whole i j h s = same-test (isWhole (Open i j)) (eachBelow reg.dataLength (gaveData h)) all ends
   where
@@ -90,7 +100,7 @@ spans-whole i j h s = same-test (isWhole (Open i j)) (eachBelow reg.dataLength (
         let high = within-high i j reg.lastData (sym (s .given-is reg.lastData) ∙ each-at reg.dataLength (gaveData h) e 7 (omega arith)) in
         both (leb i reg.firstData) (ltb reg.lastData j) (le-leb i reg.firstData low) (lt-ltb reg.lastData j high)
 
-pub whole-is : (b : Burst) (h : List Happening) → isOpen b ≡ true → Spanned b (givenIn h) → isWhole b ≡ wholeIn h
+pub whole-is : (b : Burst) (h : List Happening) → isOpen b ≡ true → Spanned b (openedAt h) (givenIn h) → isWhole b ≡ wholeIn h
 whole-is Closed h o s = absurd (false≢true o)
 whole-is (Open i j) h o s = spans-whole i j h s
 
@@ -107,3 +117,6 @@ register-data a m l u =
       le-ltb a reg.firstData l,
       le-ltb reg.lastData a u,
     )
+
+pub gives-value : (m : Machine) (i j : ℕ) → m .burst ≡ Open i j → ltb reg.lastRegister j ≡ false → byteGiven m .value ≡ register j m
+gives-value m i j e l = rw (e, l)

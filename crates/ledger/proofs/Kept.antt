@@ -1,45 +1,59 @@
 -- The one invariant, of a machine and the history that led to it, and that every event keeps it.
-use Prim.Native.Nat.{ℕ, _+_, _-_, _<_}
+use Prim.Native.Nat.{ℕ, _+_, _-_, _*_, _/_, _%_, _≤_, _<_}
 use mathlib.Core.Path.{_≡_, refl, sym, ap, _∙_, subst}
-use mathlib.Core.Bool.{Bool, true, false, true≢false}
+use mathlib.Core.Bool.{Bool, true, false, cond, _&&_, _||_, true≢false}
 use mathlib.Core.List.{List, [], _∷_, _++_, append-assoc}
 use native.Mathlib.Omega.{arith}
+use lib.Dec.{eqb, ltb}
 use lib.ListN.{getD}
+use borrow.Author.Tests.{leb-false, eqb-false}
 use Rattle.laws.specs.Choices.{pick}
+use Rattle.paper.specs.Numbers.{done}
 use Rattle.paper.specs.Registers as reg
-use Rattle.machine.specs.declared.Held.the-variants.{Nothing}
+use Rattle.machine.specs.declared.Phase.{Phase}
+use Rattle.machine.specs.declared.Held.{Held}
+use Rattle.machine.specs.declared.Held.the-variants.{Nothing, Byte}
 use Rattle.machine.specs.declared.Burst.{Burst}
-use Rattle.machine.specs.declared.Burst.the-variants.{Closed, Open}
+use Rattle.machine.specs.declared.Burst.the-variants as burst
+use Rattle.machine.specs.declared.Codes.{Codes}
 use Rattle.machine.specs.declared.Conversion.{Conversion}
 use Rattle.machine.specs.declared.Device.{Device}
 use Rattle.machine.specs.declared.Ledger.{Ledger}
 use Rattle.machine.specs.declared.Machine.{Machine}
-use Rattle.machine.specs.Fields.{withDevice, withBurst, withLedger}
-use Rattle.machine.specs.State as state
-use Rattle.machine.specs.State.{runs, isOpen, isThere, isUnread}
-use Rattle.machine.specs.Counts.{begunIf, deliveredIf}
-use Rattle.machine.specs.Data.{register}
-use Rattle.machine.specs.Events.{reset, showing, keeping, isWhole, delivering, waitingShown, ended}
 use Rattle.machine.specs.declared.Event.{Event}
-use Rattle.machine.specs.Event.{next, after}
-use Rattle.ledger.specs.History.{Happening, began, finished, lost, opened, gave, closed, givenIn, wholeIn, Reading, shownBy, bit}
-use Rattle.ledger.specs.Told.{told, toldAfter, history}
+use Rattle.machine.specs.Fields.{withHeld, withDevice, withBurst, withLedger}
+use Rattle.machine.specs.State as state
+use Rattle.machine.specs.State.{runs, standsBy, isOpen, isThere, isUnread}
+use Rattle.machine.specs.Counts.{isBarred, begunIf, deliveredIf, overwrittenIf}
+use Rattle.machine.specs.Control as control
+use Rattle.machine.specs.Control.{effect, heldEffect}
+use Rattle.machine.specs.Data.{inRange, stored, register}
+use Rattle.machine.specs.Events.{reset, rested, heldWillBegin, showing, keeping, converted, isWhole, delivering, waitingShown, ended, awake, byteGiven}
+use Rattle.machine.specs.Event.{next, answer, after}
+use Rattle.machine.proofs.Walk.{Steps, refuses-not-done, walk}
+use Rattle.ledger.specs.Happening.{Change, copied, wroteF2, wroteF5, heldF4, tookF4, Happening, began, finished, lost, opened, gave, closed, changed}
+use Rattle.ledger.specs.Device.{isConverting, isStandby, asksNormal, beginsBy, changes, begins, finishes, deviceIn}
+use Rattle.ledger.specs.Bytes.{dataBytes}
+use Rattle.ledger.specs.History.{codesIn, openedAt, givenIn, wholeIn, Measurement, shownBy, bit}
+use Rattle.ledger.specs.Told.{takes, writesF4, takesHeld, told, toldAfter, history}
 use Rattle.ledger.specs.Statements.{AreOf}
 use Rattle.ledger.proofs.Book as bk
 use Rattle.ledger.proofs.Book.{Book, nonzero, nonzero-pos, enter, Asks}
 use Rattle.ledger.proofs.Right.{Right, right-fresh, right-enter, none-waits}
 use Rattle.ledger.proofs.Named.{Names, names-fresh, names-enter}
-use Rattle.ledger.proofs.Entries.{book, busy, Tidy, enters-lost, enters-began, enters-finished, enters-partial, enters-whole}
-use Rattle.ledger.proofs.Given.{Spanned, spans-opened, spans-gave, whole-is, register-data}
-use Rattle.ledger.proofs.Walk.{Steps, lands, overwritten-begun, walk}
+use Rattle.ledger.proofs.Entries.{book, busy, lands, Tidy, enters-lost, enters-began, enters-finished, enters-partial, enters-whole}
+use Rattle.ledger.proofs.Given.{Spans, Spanned, spans-opened, spans-gave, whole-is, register-data, gives-value}
+use Rattle.ledger.proofs.Laid.{lays}
+use Rattle.ledger.proofs.Control.{runs-is, begins-is, takes-begun, takes-else, rests-as, rested-phase, finished-idle, standing-idle, wakes-as}
 
 -- the book's counts and conversions, its numbers, what the machine has besides, and what the open burst has given
 pub record Kept (m : Machine) (h : List Happening) : Type 0 where
   pub right : Right (busy m) (book m) h
   pub names : Names (busy m) (book m) h
   pub tidy : Tidy m
-  pub spanned : Spanned (m .burst) (givenIn h)
+  pub spanned : Spanned (m .burst) (openedAt h) (givenIn h)
   pub given : AreOf (shownBy h) (givenIn h)
+  pub device-is : m .device ≡ deviceIn h
 
 kept-fresh : Kept state.fresh []
 kept-fresh = record {
@@ -48,73 +62,60 @@ kept-fresh = record {
   tidy = record { small = omega arith; none-shown = λ e. refl; none-waits = λ e. refl; unread-waits = refl; none-held = λ e. refl };
   spanned = tt;
   given = tt;
+  device-is = refl;
 }
 
 -- one thing happened
 enters : (x : Happening) (m n : Machine) (h : List Happening) → Asks x (busy m) (isOpen (m .burst)) → busy n ≡ bk.runs x (busy m)
-    → book n ≡ enter x (wholeIn h) (book m) → Tidy n → Spanned (n .burst) (givenIn (x ∷ h)) → AreOf (shownBy (x ∷ h)) (givenIn (x ∷ h))
+    → book n ≡ enter x (wholeIn h) (n .device .codes) (book m) → (busy n ≡ true → n .device .codes ≡ codesIn (x ∷ h)) → n .device ≡ deviceIn (x ∷ h)
+    → Tidy n → Spanned (n .burst) (openedAt (x ∷ h)) (givenIn (x ∷ h)) → AreOf (shownBy (x ∷ h)) (givenIn (x ∷ h))
     → Kept m h → Kept n (x ∷ h)
-enters x m n h a e b t s g k = record {
+enters x m n h a e b c d t s g k = record {
   right = subst (λ (u : Bool). Right u (book n) (x ∷ h)) (sym e)
-      (subst (λ (c : Book). Right (bk.runs x (busy m)) c (x ∷ h)) (sym b) (right-enter x (busy m) (book m) h a (k .right)));
+      (subst (λ (o : Book). Right (bk.runs x (busy m)) o (x ∷ h)) (sym b)
+      (right-enter x (busy m) (n .device .codes) (book m) h (λ u. c (e ∙ u)) a (k .right)));
   names = subst (λ (u : Bool). Names u (book n) (x ∷ h)) (sym e)
-      (subst (λ (c : Book). Names (bk.runs x (busy m)) c (x ∷ h)) (sym b) (names-enter x (busy m) (book m) h a (k .right) (k .names)));
+      (subst (λ (o : Book). Names (bk.runs x (busy m)) o (x ∷ h)) (sym b) (names-enter x (busy m) (n .device .codes) (book m) h a (k .right) (k .names)));
   tidy = t;
   spanned = s;
   given = g;
-}
-
--- nothing happened: only the device's fields changed
-still : (m : Machine) (d : Device) (h : List Happening) → runs (d .phase) ≡ busy m → (busy m ≡ true → d .codes ≡ m .device .codes)
-    → (busy m ≡ false → m .device .held ≡ Nothing → d .held ≡ Nothing) → Kept m h → Kept (withDevice d m) h
-still m d h e c n k = let r = k .right in let p = k .names in let t = k .tidy in record {
-  right = subst (λ (u : Bool). Right u (book (withDevice d m)) h) (sym e) (record {
-    begun-is = r .begun-is;
-    begun-some = r .begun-some;
-    codes-is = λ q. c q ∙ r .codes-is q;
-    open-is = r .open-is;
-    waits-is = r .waits-is;
-    shown-is = r .shown-is;
-    latest-is = r .latest-is;
-    counts-are = r .counts-are;
-    standing-is = r .standing-is;
-  });
-  names = subst (λ (u : Bool). Names u (book (withDevice d m)) h) (sym e) (record {
-    named = p .named;
-    run-at = p .run-at;
-    wait-at = p .wait-at;
-    shown-at = p .shown-at;
-    wait-le = p .wait-le;
-    shown-le = p .shown-le;
-    none-read = p .none-read;
-  });
-  tidy = record {
-    small = t .small;
-    none-shown = t .none-shown;
-    none-waits = t .none-waits;
-    unread-waits = t .unread-waits;
-    none-held = λ i. n (sym e ∙ i) (t .none-held (sym e ∙ i));
-  };
-  spanned = k .spanned;
-  given = k .given;
+  device-is = d;
 }
 
 -- ---- the steps of the machine
 
 kept-lost : (m : Machine) (h : List Happening) → Kept m h → Kept (reset m) (lost ∷ h)
-kept-lost m h k = enters lost m (reset m) h tt refl (enters-lost m h (k .tidy) (k .right) (wholeIn h))
+kept-lost m h k = enters lost m (reset m) h tt refl (enters-lost m h (k .tidy) (k .right) (wholeIn h)) (λ e. absurd (true≢false (sym e))) refl
     (record { small = k .tidy .small; none-shown = λ e. refl; none-waits = λ e. refl; unread-waits = refl; none-held = λ e. refl }) tt tt k
 
-kept-began : (m : Machine) (d : Device) (h : List Happening) → busy m ≡ false → runs (d .phase) ≡ true → m .ledger .begun < reg.mostBegun → Kept m h
-    → Kept (withDevice d (withLedger (begunIf true (m .ledger)) m)) (began (d .codes) ∷ h)
-kept-began m d h i e l k = let t = k .tidy in
-    enters (began (d .codes)) m (withDevice d (withLedger (begunIf true (m .ledger)) m)) h i e (enters-began m h t (k .right) (wholeIn h) d l)
+begun-runs : (d : Device) → runs (begins d .phase) ≡ true
+begun-runs d = pick (λ (p : Phase). runs p ≡ true) (isStandby (d .phase) || asksNormal (d .f4)) (λ _. refl) (λ _. refl)
+
+kept-changed : (x : Change) (m : Machine) (h : List Happening) → runs (changes x (m .device) .phase) ≡ busy m → (busy m ≡ true → changes x (m .device) .codes ≡ m .device .codes)
+    → (busy m ≡ false → changes x (m .device) .held ≡ Nothing) → Kept m h → Kept (withDevice (changes x (m .device)) m) (changed x ∷ h)
+kept-changed x m h e c n k = let t = k .tidy in
+    enters (changed x) m (withDevice (changes x (m .device)) m) h tt e refl (λ u. c (sym e ∙ u) ∙ k .right .codes-is (sym e ∙ u)) (ap (changes x) (k .device-is))
+    (record { small = t .small; none-shown = t .none-shown; none-waits = t .none-waits; unread-waits = t .unread-waits; none-held = λ i. n (sym e ∙ i) })
+    (k .spanned) (k .given) k
+
+kept-began : (m : Machine) (h : List Happening) → busy m ≡ false → m .ledger .begun < reg.mostBegun → Kept m h
+    → Kept (withDevice (begins (m .device)) (withLedger (begunIf true (m .ledger)) m)) (began ∷ h)
+kept-began m h i l k =
+    let t = k .tidy in
+    let d : Device = begins (m .device) in
+    let e : runs (d .phase) ≡ true = begun-runs (m .device) in
+    enters began m (withDevice d (withLedger (begunIf true (m .ledger)) m)) h i e (enters-began m h t (k .right) (wholeIn h) d l)
+    (λ _. ap (λ (d : Device). d .codes) (k .device-is)) (ap begins (k .device-is))
     (record { small = omega arith; none-shown = t .none-shown; none-waits = t .none-waits; unread-waits = t .unread-waits; none-held = λ q. absurd (true≢false (sym e ∙ q)) })
     (k .spanned) (k .given) k
 
-tidy-lands : (m : Machine) (d : Device) (bs : List ℕ) → nonzero (m .ledger .begun) ≡ true → d .held ≡ Nothing → Tidy m → Tidy (lands m d bs)
+pub overwritten-begun : (t : Bool) (l : Ledger) → overwrittenIf t l .begun ≡ l .begun
+overwritten-begun true l = refl
+overwritten-begun false l = refl
+
+tidy-lands : (m : Machine) (d : Device) (x y z : ℕ) → nonzero (m .ledger .begun) ≡ true → d .held ≡ Nothing → Tidy m → Tidy (lands m d x y z)
 unfolding keeping showing
-tidy-lands m d bs one n t =
+tidy-lands m d x y z one n t =
     pick (λ (n : Machine). Tidy (withDevice d n)) (isOpen (m .burst))
     (λ _. record {
       small = rw (overwritten-begun (isUnread (m .waiting)) (m .ledger)) (t .small);
@@ -131,34 +132,38 @@ tidy-lands m d bs one n t =
       none-held = λ _. n;
     })
 
-lands-burst : (m : Machine) (d : Device) (bs : List ℕ) → lands m d bs .burst ≡ m .burst
+lands-burst : (m : Machine) (d : Device) (x y z : ℕ) → lands m d x y z .burst ≡ m .burst
 unfolding keeping showing
-lands-burst m d bs = pick (λ (n : Machine). n .burst ≡ m .burst) (isOpen (m .burst)) (λ _. refl) (λ _. refl)
+lands-burst m d x y z = pick (λ (n : Machine). n .burst ≡ m .burst) (isOpen (m .burst)) (λ _. refl) (λ _. refl)
 
-kept-finished : (m : Machine) (d : Device) (bs : List ℕ) (h : List Happening) → busy m ≡ true → runs (d .phase) ≡ false → d .codes ≡ m .device .codes
-    → d .held ≡ Nothing → Kept m h → Kept (lands m d bs) (finished bs ∷ h)
-kept-finished m d bs h u i q n k =
+kept-finished : (m : Machine) (x y z : ℕ) (h : List Happening) → busy m ≡ true → Kept m h → Kept (lands m (finishes (m .device)) x y z) (finished x y z ∷ h)
+kept-finished m x y z h u k =
     let r = k .right in
+    let d : Device = finishes (m .device) in
+    let i : runs (d .phase) ≡ false = finished-idle (m .device) in
     let one : nonzero (m .ledger .begun) ≡ true = nonzero-pos (m .ledger .begun) (omega (arith, r .begun-is, r .begun-some, ap bit u)) in
-    enters (finished bs) m (lands m d bs) h u i
-    (enters-finished m h (k .tidy) r (wholeIn h) d bs q (λ o. r .waits-is ∙ none-waits h (sym (r .open-is) ∙ o)))
-    (tidy-lands m d bs one n (k .tidy)) (rw (lands-burst m d bs) (k .spanned)) (k .given) k
+    enters (finished x y z) m (lands m d x y z) h u i
+    (enters-finished m h (k .tidy) r (wholeIn h) d x y z (λ o. r .waits-is ∙ none-waits h (sym (r .open-is) ∙ o)))
+    (λ q. absurd (true≢false (sym q ∙ i))) (ap finishes (k .device-is))
+    (tidy-lands m d x y z one refl (k .tidy)) (rw (lands-burst m d x y z) (k .spanned)) (k .given) k
 
 tidy-burst : (m : Machine) (b : Burst) → Tidy m → Tidy (withBurst b m)
 tidy-burst m b t = record { small = t .small; none-shown = t .none-shown; none-waits = t .none-waits; unread-waits = t .unread-waits; none-held = t .none-held }
 
-kept-opened : (m : Machine) (a : ℕ) (h : List Happening) → isOpen (m .burst) ≡ false → Kept m h → Kept (withBurst (Open a a) m) (opened ∷ h)
-kept-opened m a h o k = enters opened m (withBurst (Open a a) m) h o refl refl (tidy-burst m (Open a a) (k .tidy)) (spans-opened a) tt k
+kept-opened : (m : Machine) (a : ℕ) (h : List Happening) → isOpen (m .burst) ≡ false → Kept m h → Kept (withBurst (burst.Open a a) m) (opened a ∷ h)
+kept-opened m a h o k = enters (opened a) m (withBurst (burst.Open a a) m) h o refl refl (k .right .codes-is) (k .device-is) (tidy-burst m (burst.Open a a) (k .tidy)) (spans-opened a) tt k
 
-kept-gave : (m : Machine) (i j : ℕ) (h : List Happening) → m .burst ≡ Open i j → Kept m h
-    → Kept (withBurst (Open i (j + 1)) m) (gave j (register j m) ∷ h)
+kept-gave : (m : Machine) (i j : ℕ) (h : List Happening) → m .burst ≡ burst.Open i j → Kept m h
+    → Kept (withBurst (burst.Open i (j + 1)) m) (gave (register j m) ∷ h)
 kept-gave m i j h e k =
     let open-is : isOpen (m .burst) ≡ true = ap isOpen e in
     let shown-is : book m .shown ≡ shownBy h = k .right .shown-is ∙ rw (← k .right .open-is, open-is) in
-    enters (gave j (register j m)) m (withBurst (Open i (j + 1)) m) h open-is refl (rw open-is)
-    (tidy-burst m (Open i (j + 1)) (k .tidy))
-    (spans-gave i j (register j m) (givenIn h) (rw e at (k .spanned)))
-    (λ q w. register-data j m q w ∙ ap (λ (c : Reading). getD (c .bytes) (j - reg.firstData) 0) shown-is, k .given) k
+    let s : Spans i j (openedAt h) (givenIn h) = rw e at (k .spanned) in
+    let Is : ℕ → Type 0 = λ a. reg.firstData ≤ a → a ≤ reg.lastData → register j m ≡ getD (shownBy h .bytes) (a - reg.firstData) 0 in
+    let byte : Is j = λ q w. register-data j m q w ∙ ap (λ (c : Measurement). getD (c .bytes) (j - reg.firstData) 0) shown-is in
+    enters (gave (register j m)) m (withBurst (burst.Open i (j + 1)) m) h open-is refl (rw open-is) (k .right .codes-is) (k .device-is)
+    (tidy-burst m (burst.Open i (j + 1)) (k .tidy))
+    (spans-gave i j (openedAt h) (register j m) (givenIn h) s) (subst Is (s .next-is) byte, k .given) k
 
 ended-device : (m : Machine) → ended m .device ≡ m .device
 unfolding showing waitingShown
@@ -167,7 +172,7 @@ ended-device m = pick (λ (n : Machine). n .device ≡ m .device) (isThere (m .w
 tidy-ended : (m : Machine) → Tidy m → Tidy (ended m)
 unfolding showing waitingShown
 tidy-ended m t =
-    pick (λ (n : Machine). Tidy (withBurst Closed n)) (isThere (m .waiting))
+    pick (λ (n : Machine). Tidy (withBurst burst.Closed n)) (isThere (m .waiting))
     (λ _. record {
       small = rw (overwritten-begun (isUnread (m .shown)) (m .ledger)) (t .small);
       none-shown = t .none-waits;
@@ -175,7 +180,7 @@ tidy-ended m t =
       unread-waits = refl;
       none-held = t .none-held;
     })
-    (λ _. tidy-burst m Closed t)
+    (λ _. tidy-burst m burst.Closed t)
 
 delivered-begun : (t : Bool) (l : Ledger) → deliveredIf t l .begun ≡ l .begun
 delivered-begun true l = refl
@@ -192,10 +197,12 @@ tidy-delivering m t = record {
 }
 
 -- by the machine's test of the burst, which is the history's
-closes : (m : Machine) (n : Machine) (h : List Happening) (g : Bool) → isOpen (m .burst) ≡ true → isWhole (m .burst) ≡ g → n .device ≡ m .device → n .burst ≡ Closed
-    → book n ≡ enter closed g (book m) → Tidy n → Kept m h → Kept n (closed ∷ h)
+closes : (m : Machine) (n : Machine) (h : List Happening) (g : Bool) → isOpen (m .burst) ≡ true → isWhole (m .burst) ≡ g → n .device ≡ m .device → n .burst ≡ burst.Closed
+    → book n ≡ enter closed g (m .device .codes) (book m) → Tidy n → Kept m h → Kept n (closed ∷ h)
 closes m n h g o w d c b t k =
-    enters closed m n h o (rw d) (rw (← whole-is (m .burst) h o (k .spanned), w) b) t (rw c tt) tt k
+    enters closed m n h o (rw d)
+    (subst (λ (c : Codes). book n ≡ enter closed (wholeIn h) c (book m)) (sym (ap (λ (d : Device). d .codes) d)) (rw (← whole-is (m .burst) h o (k .spanned), w) b))
+    (λ u. rw d (k .right .codes-is (rw d at u))) (d ∙ k .device-is) t (rw c tt) tt k
 
 kept-partial : (m : Machine) (h : List Happening) → isOpen (m .burst) ≡ true → isWhole (m .burst) ≡ false → Kept m h → Kept (ended m) (closed ∷ h)
 kept-partial m h o w k = closes m (ended m) h false o w (ended-device m) refl (enters-partial m h (k .tidy) (k .right)) (tidy-ended m (k .tidy)) k
@@ -205,27 +212,104 @@ unfolding delivering
 kept-whole m h o w k = closes m (ended (delivering m)) h true o w (ended-device (delivering m)) refl (enters-whole m h (k .tidy) (k .right))
     (tidy-ended (delivering m) (tidy-delivering m (k .tidy))) k
 
+-- ---- F4 takes effect
+
+took-idle : (d : Device) (v : ℕ) → runs (changes (tookF4 v) d .phase) ≡ false
+took-idle d v = pick (λ (p : Phase). runs p ≡ false) (asksNormal v && isStandby (d .phase)) (λ _. refl) (λ _. refl)
+
+kept-effect : (m : Machine) (v : ℕ) (h : List Happening) → busy m ≡ false → isBarred (control.begins (m .device .phase) v) (m .ledger) ≡ false → Kept m h
+    → Kept (effect m v) (takes h v ++ h)
+unfolding effect
+kept-effect m v h i f k =
+    rw (← k .device-is, begins-is (m .device) v i) (at (beginsBy (m .device .phase) v) refl)
+  where
+    set : Machine
+    set = withDevice (changes (tookF4 v) (m .device)) m
+
+    set-kept : Kept set (changed (tookF4 v) ∷ h)
+    set-kept = kept-changed (tookF4 v) m h (took-idle (m .device) v ∙ sym i) (λ u. absurd (true≢false (sym u ∙ i))) (λ _. refl) k
+
+    at : (b : Bool) → beginsBy (m .device .phase) v ≡ b
+        → Kept (withDevice (control.controlled (m .device) v) (withLedger (begunIf b (m .ledger)) m)) (cond b (began ∷ changed (tookF4 v) ∷ []) (changed (tookF4 v) ∷ []) ++ h)
+    at true e = rw (takes-begun (m .device) v i e)
+        (kept-began set (changed (tookF4 v) ∷ h) (took-idle (m .device) v) (leb-false reg.mostBegun (m .ledger .begun) (rw (begins-is (m .device) v i, e) at f)) set-kept)
+    at false e = rw (takes-else (m .device) v i e) set-kept
+
+-- ---- a finish, and then a held F4 takes effect
+
+lands-begun : (m : Machine) (d : Device) (x y z : ℕ) → lands m d x y z .ledger .begun ≡ m .ledger .begun
+unfolding keeping showing
+lands-begun m d x y z =
+    pick (λ (k : Machine). k .ledger .begun ≡ m .ledger .begun) (isOpen (m .burst))
+    (λ _. overwritten-begun (isUnread (m .waiting)) (m .ledger)) (λ _. overwritten-begun (isUnread (m .shown)) (m .ledger))
+
+rested-held : (d : Device) → rested d .held ≡ d .held
+rested-held d = pick (λ (k : Device). k .held ≡ d .held) (state.isForced (d .phase)) (λ _. refl) (λ _. refl)
+
+kept-held : (m : Machine) (q : Held) (x y z : ℕ) (h : List Happening) → m .device .held ≡ q → busy m ≡ true
+    → isBarred (control.heldBegins q (rested (m .device) .phase)) (m .ledger) ≡ false → Kept m h
+    → Kept (heldEffect q (lands m (rested (m .device)) x y z)) (takesHeld q (finished x y z ∷ h) ++ finished x y z ∷ h)
+unfolding heldEffect effect
+kept-held m Nothing x y z h e u f k =
+    subst (λ (d : Device). Kept (lands m d x y z) (finished x y z ∷ h)) (sym (rests-as (m .device)) ∙ ap (λ (q : Held). withHeld q (rested (m .device))) (sym (rested-held (m .device) ∙ e)))
+    (kept-finished m x y z h u k)
+kept-held m (Byte v) x y z h e u f k =
+    subst (λ (d : Device). Kept (effect (lands m d x y z) v) (takes (finished x y z ∷ h) v ++ finished x y z ∷ h)) (sym (rests-as (m .device)))
+    (kept-effect (lands m (finishes (m .device)) x y z) v (finished x y z ∷ h) (finished-idle (m .device))
+    (rw (lands-begun m (finishes (m .device)) x y z, ← rested-phase (m .device)) f) (kept-finished m x y z h u k))
+
 -- ---- the events
 
-abbrev Keeps : Machine → ℕ → Machine → List Happening → Type 0
-Keeps m n k l = (h : List Happening) → Kept m h → Kept k (l ++ h)
+-- F5 without its bit 1
+bit-dropped : (v : ℕ) → v / 4 * 4 + v % 2 ≡ v - v % 4 + v % 2
+bit-dropped v = omega arith
+
+written-f4 : (m : Machine) (v : ℕ) (h : List Happening) → busy m ≡ false → isBarred (control.begins (m .device .phase) v) (m .ledger) ≡ false → Kept m h
+    → Kept (effect m v) (writesF4 h v ++ h)
+written-f4 m v h i b k =
+    let idle : isConverting (deviceIn h .phase) ≡ false = rw (← k .device-is, ← runs-is (m .device .phase)) i in
+    subst (λ (t : Bool). Kept (effect m v) (cond t (changed (heldF4 v) ∷ []) (takes h v) ++ h)) (sym idle) (kept-effect m v h i b k)
+
+kept-finish : (m : Machine) (x y z : ℕ) → busy m ≡ true → inRange x y z ≡ true → isBarred (heldWillBegin (m .device)) (m .ledger) ≡ false
+    → (h : List Happening) → Kept m h → Kept (converted m (stored (m .device) x y z)) ((takesHeld (deviceIn h .held) (finished x y z ∷ h) ++ finished x y z ∷ []) ++ h)
+kept-finish m x y z u r f h k =
+    subst (λ (bs : List ℕ). Kept (converted m bs) ((takesHeld (deviceIn h .held) (finished x y z ∷ h) ++ finished x y z ∷ []) ++ h)) (sym (lays (m .device) x y z))
+    (subst (λ (d : Device). Kept (converted m (dataBytes (m .device .codes) x y z)) ((takesHeld (d .held) (finished x y z ∷ h) ++ finished x y z ∷ []) ++ h)) (k .device-is)
+    (rw append-assoc (kept-held m (m .device .held) x y z h refl u f k)))
+
+kept-wake : (m : Machine) → standsBy (m .device .phase) ≡ true → isBarred true (m .ledger) ≡ false → (h : List Happening) → Kept m h → Kept (awake m) (began ∷ h)
+kept-wake m y b h k =
+    subst (λ (d : Device). Kept (withDevice d (withLedger (begunIf true (m .ledger)) m)) (began ∷ h)) (wakes-as (m .device) y)
+    (kept-began m h (standing-idle (m .device .phase) y) (leb-false reg.mostBegun (m .ledger .begun) b) k)
+
+kept-gives : (m : Machine) (i j : ℕ) → m .burst ≡ burst.Open i j → ltb reg.lastRegister j ≡ false → (h : List Happening) → Kept m h
+    → Kept (withBurst (burst.Open i (j + 1)) m) (gave (byteGiven m .value) ∷ h)
+kept-gives m i j e l h k = rw (gives-value m i j e l) (kept-gave m i j h e k)
+
+abbrev Keeps : Machine → Event → ℕ → Machine → Type 0
+Keeps m e n k = (h : List Happening) → Kept m h → Kept k (told n h e (byteGiven m .value) ++ h)
 
 keeps : Steps Keeps
 keeps = record {
-  refuses = λ m n z h k. k;
-  stays = λ m d e c n h k. still m d h e c n k;
-  loses = kept-lost;
-  begins = λ m d i e l h k. kept-began m d h i e l k;
-  finishes = λ m d bs n l u i q z c h k. rw append-assoc (c (finished bs ∷ h) (kept-finished m d bs h u i q z k));
-  opens = λ m a o h k. kept-opened m a h o k;
-  gives = λ m i j e h k. kept-gave m i j h e k;
+  refuses = λ m e n r h k. rw (refuses-not-done r) k;
+  powers = kept-lost;
+  copies = λ m c h k. kept-changed copied m h refl (λ _. refl) (k .tidy .none-held) k;
+  resets = λ m o h k. kept-lost m h k;
+  writes-f2 = λ m v c h k. kept-changed (wroteF2 v) m h refl (λ _. refl) (k .tidy .none-held) k;
+  writes-f5 = λ m v c s h k. rw (bit-dropped v) (kept-changed (wroteF5 v) m h refl (λ _. refl) (k .tidy .none-held) k);
+  holds-f4 = λ m v c u q h k. rw (← k .device-is, ← runs-is (m .device .phase), u) (kept-changed (heldF4 v) m h refl (λ _. refl) (λ i. absurd (true≢false (sym u ∙ i))) k);
+  takes-f4 = λ m v c i b h k. written-f4 m v h i b k;
+  finishes = kept-finish;
+  wakes = λ m y b h k. kept-wake m y b h k;
+  opens = λ m a o r h k. kept-opened m a h o k;
+  gives = kept-gives;
   ends-whole = λ m o w h k. kept-whole m h o w k;
   ends-partial = λ m o w h k. kept-partial m h o w k;
 }
 
 kept-after : (m : Machine) (h : List Happening) (es : List Event) → Kept m h → Kept (after m es) (toldAfter m h es)
 kept-after m h [] k = k
-kept-after m h (e ∷ es) k = kept-after (next m e) (told m e ++ h) es (walk Keeps keeps m e h k)
+kept-after m h (e ∷ es) k = kept-after (next m e) (told (answer m e) h e (byteGiven m .value) ++ h) es (walk Keeps keeps m e h k)
 
 -- after every list of events from the fresh state
 pub kept : (es : List Event) → Kept (after state.fresh es) (history es)

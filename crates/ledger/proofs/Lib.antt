@@ -7,11 +7,15 @@ pub mod Right
 pub mod Named
 pub mod Standing
 pub mod Given
+pub mod Laid
 pub mod Entries
-pub mod Walk
+pub mod Control
 pub mod Kept
+pub mod Numbers
+pub mod Registers
 pub mod Theorems
 pub mod Turn
 pub mod Alive
+pub mod Held
 pub mod Turns
 pub mod Bench

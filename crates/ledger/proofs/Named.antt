@@ -7,13 +7,14 @@ use native.Mathlib.Omega.{arith}
 use lib.Dec.{eqb}
 use borrow.Author.Tests.{eqb-true, eq-eqb, ne-eqb}
 use Rattle.machine.specs.declared.Codes.{Codes}
-use Rattle.ledger.specs.History.{Happening, began, finished, lost, opened, gave, closed, begunIn, openIn, wholeIn, waitsIn, Reading, noReading, bit}
+use Rattle.ledger.specs.Happening.{Happening, began, finished, lost, opened, gave, closed, changed}
+use Rattle.ledger.specs.History.{begunIn, openIn, wholeIn, waitsIn, Measurement, noMeasurement, bit}
 use Rattle.ledger.proofs.Fate.{Fate, Unbegun, Running, Waiting, Unread, Read, Delivered, Overwritten, Abandoned, every, move, fate}
 use Rattle.ledger.proofs.Book.{Book, nonzero, nonzero-pos, some, latest, made, fresh, enter, Asks, runs}
 use Rattle.ledger.proofs.Right.{Right}
 
 -- u: one is running; n: the number begun; v: the waiting one; s: the shown one
-abbrev pub Named : Bool → ℕ → Reading → Reading → ℕ → Fate → Type 0
+abbrev pub Named : Bool → ℕ → Measurement → Measurement → ℕ → Fate → Type 0
 Named u n v s k Unbegun = Unit {0}
 Named u n v s k Running = (u ≡ true) × (k ≡ n)
 Named u n v s k Waiting = (some v ≡ true) × (k ≡ v .number)
@@ -44,8 +45,8 @@ names-fresh = record {
 }
 
 -- a new beginning moves no conversion begun before
-old : (c : Codes) (h : List Happening) (k : ℕ) → k ≤ begunIn h → fate (began c ∷ h) k ≡ fate h k
-old c h k l = rw (ne-eqb k (suc (begunIn h)) (λ e. omega arith))
+old : (h : List Happening) (k : ℕ) → k ≤ begunIn h → fate (began ∷ h) k ≡ fate h k
+old h k l = rw (ne-eqb k (suc (begunIn h)) (λ e. omega arith))
 
 latest-le : (u : Bool) (b : Book) (h : List Happening) → Names u b h → latest b .number ≤ begunIn h
 latest-le u b h p = at (some (b .waiting)) refl
@@ -55,9 +56,9 @@ latest-le u b h p = at (some (b .waiting)) refl
     at false e = rw e (p .shown-le)
 
 -- a shown conversion, read or not: while a burst is open, and at a close with none waiting
-shown-stays : (bs : List ℕ) (g w n t : Bool) → move (finished bs) true g w n (cond t Read Unread) ≡ cond t Read Unread
-shown-stays bs g w n true = refl
-shown-stays bs g w n false = refl
+shown-stays : (x y z : ℕ) (g w n t : Bool) → move (finished x y z) true g w n (cond t Read Unread) ≡ cond t Read Unread
+shown-stays x y z g w n true = refl
+shown-stays x y z g w n false = refl
 
 shown-closes : (o g n t : Bool) → move closed o g false n (cond t Read Unread) ≡ cond (cond g true t) Read Unread
 shown-closes o true n true = refl
@@ -65,61 +66,61 @@ shown-closes o true n false = refl
 shown-closes o false n true = refl
 shown-closes o false n false = refl
 
-module _ (n : ℕ) (v s : Reading) (k : ℕ) where
+module _ (n : ℕ) (v s : Measurement) (k : ℕ) where
   named-began : (t : Bool) → (t ≡ true → k ≡ suc n) → (q : Fate) → Named false n v s k q → Named true (suc n) v s k (cond t Running q)
   named-began true e = λ q m. (refl, e refl)
   named-began false e = every (λ q. Named false n v s k q → Named true (suc n) v s k q)
       (λ m. m) (λ m. absurd (false≢true (m .0))) (λ m. m) (λ m. m) (λ m. m) (λ m. m) (λ m. m) (λ m. m)
 
-  named-finished : (bs : List ℕ) (o g w t u : Bool) (c : Reading) → some c ≡ true → n ≡ c .number → (q : Fate) → Named u n v s k q
-      → Named false n (cond o c noReading) (cond o s c) k (move (finished bs) o g w t q)
-  named-finished bs true g w t u c f e = every (λ q. Named u n v s k q → Named false n c s k (move (finished bs) true g w t q))
+  named-finished : (x y z : ℕ) (o g w t u : Bool) (c : Measurement) → some c ≡ true → n ≡ c .number → (q : Fate) → Named u n v s k q
+      → Named false n (cond o c noMeasurement) (cond o s c) k (move (finished x y z) o g w t q)
+  named-finished x y z true g w t u c f e = every (λ q. Named u n v s k q → Named false n c s k (move (finished x y z) true g w t q))
       (λ m. tt) (λ m. (f, m .1 ∙ e)) (λ m. tt) (λ m. m) (λ m. m) (λ m. tt) (λ m. tt) (λ m. tt)
-  named-finished bs false g w t u c f e = every (λ q. Named u n v s k q → Named false n noReading c k (move (finished bs) false g w t q))
+  named-finished x y z false g w t u c f e = every (λ q. Named u n v s k q → Named false n noMeasurement c k (move (finished x y z) false g w t q))
       (λ m. tt) (λ m. m .1 ∙ e) (λ m. tt) (λ m. tt) (λ m. tt) (λ m. tt) (λ m. tt) (λ m. tt)
 
-  named-lost : (o g w t : Bool) (q : Fate) → Named false n noReading noReading k (move lost o g w t q)
-  named-lost o g w t = every (λ q. Named false n noReading noReading k (move lost o g w t q)) tt tt tt tt tt tt tt tt
+  named-lost : (o g w t : Bool) (q : Fate) → Named false n noMeasurement noMeasurement k (move lost o g w t q)
+  named-lost o g w t = every (λ q. Named false n noMeasurement noMeasurement k (move lost o g w t q)) tt tt tt tt tt tt tt tt
 
-  named-closed : (o g w t u : Bool) → some v ≡ w → (q : Fate) → Named u n v s k q → Named u n noReading (cond w v s) k (move closed o g w t q)
-  named-closed o true true t u e = every (λ q. Named u n v s k q → Named u n noReading v k (move closed o true true t q))
+  named-closed : (o g w t u : Bool) → some v ≡ w → (q : Fate) → Named u n v s k q → Named u n noMeasurement (cond w v s) k (move closed o g w t q)
+  named-closed o true true t u e = every (λ q. Named u n v s k q → Named u n noMeasurement v k (move closed o true true t q))
       (λ m. tt) (λ m. m) (λ m. m .1) (λ m. tt) (λ m. tt) (λ m. tt) (λ m. tt) (λ m. tt)
-  named-closed o false true t u e = every (λ q. Named u n v s k q → Named u n noReading v k (move closed o false true t q))
+  named-closed o false true t u e = every (λ q. Named u n v s k q → Named u n noMeasurement v k (move closed o false true t q))
       (λ m. tt) (λ m. m) (λ m. m .1) (λ m. tt) (λ m. tt) (λ m. tt) (λ m. tt) (λ m. tt)
-  named-closed o true false t u e = every (λ q. Named u n v s k q → Named u n noReading s k (move closed o true false t q))
+  named-closed o true false t u e = every (λ q. Named u n v s k q → Named u n noMeasurement s k (move closed o true false t q))
       (λ m. tt) (λ m. m) (λ m. absurd (true≢false (sym (m .0) ∙ e))) (λ m. m) (λ m. m) (λ m. tt) (λ m. tt) (λ m. tt)
-  named-closed o false false t u e = every (λ q. Named u n v s k q → Named u n noReading s k (move closed o false false t q))
+  named-closed o false false t u e = every (λ q. Named u n v s k q → Named u n noMeasurement s k (move closed o false false t q))
       (λ m. tt) (λ m. m) (λ m. absurd (true≢false (sym (m .0) ∙ e))) (λ m. m) (λ m. m) (λ m. tt) (λ m. tt) (λ m. tt)
 
-pub names-enter : (x : Happening) (u : Bool) (b : Book) (h : List Happening) → Asks x u (b .burst) → Right u b h → Names u b h
-    → Names (runs x u) (enter x (wholeIn h) b) (x ∷ h)
-names-enter (began c) u b h a r p = record {
+pub names-enter : (x : Happening) (u : Bool) (c : Codes) (b : Book) (h : List Happening) → Asks x u (b .burst) → Right u b h → Names u b h
+    → Names (runs x u) (enter x (wholeIn h) c b) (x ∷ h)
+names-enter began u c b h a r p = record {
   named = λ k. named-began (begunIn h) (b .waiting) (b .shown) k (eqb k (suc (begunIn h))) (eqb-true k (suc (begunIn h))) (fate h k) (rw a at (p .named k));
   run-at = λ e. rw (eq-eqb (suc (begunIn h)) (suc (begunIn h)) refl);
-  wait-at = λ e. old c h (b .waiting .number) (p .wait-le) ∙ p .wait-at e;
-  shown-at = λ e. old c h (b .shown .number) (p .shown-le) ∙ p .shown-at e;
+  wait-at = λ e. old h (b .waiting .number) (p .wait-le) ∙ p .wait-at e;
+  shown-at = λ e. old h (b .shown .number) (p .shown-le) ∙ p .shown-at e;
   wait-le = omega (arith, p .wait-le);
   shown-le = omega (arith, p .shown-le);
   none-read = p .none-read;
 }
-names-enter (finished bs) u b h a r p = at (b .burst) refl
+names-enter (finished x y z) u c b h a r p = at (b .burst) refl
   where
     one : nonzero (b .ledger .begun) ≡ true
     one = nonzero-pos (b .ledger .begun) (omega (arith, r .begun-is, r .begun-some, ap bit a))
 
     moves : (o : Bool) → openIn h ≡ o → (k : ℕ)
-        → Named false (begunIn h) (cond o (made b bs) noReading) (cond o (b .shown) (made b bs)) k (fate (finished bs ∷ h) k)
+        → Named false (begunIn h) (cond o (made b x y z) noMeasurement) (cond o (b .shown) (made b x y z)) k (fate (finished x y z ∷ h) k)
     moves o e k = rw e
-        (named-finished (begunIn h) (b .waiting) (b .shown) k bs o (wholeIn h) (waitsIn h) (eqb k (suc (begunIn h))) u (made b bs) one (sym (r .begun-is)) (fate h k) (p .named k))
+        (named-finished (begunIn h) (b .waiting) (b .shown) k x y z o (wholeIn h) (waitsIn h) (eqb k (suc (begunIn h))) u (made b x y z) one (sym (r .begun-is)) (fate h k) (p .named k))
 
-    at : (o : Bool) → b .burst ≡ o → Names false (enter (finished bs) (wholeIn h) b) (finished bs ∷ h)
+    at : (o : Bool) → b .burst ≡ o → Names false (enter (finished x y z) (wholeIn h) c b) (finished x y z ∷ h)
     at true e =
         let o : openIn h ≡ true = sym (r .open-is) ∙ e in
         rw (e, enter) (record {
           named = moves true o;
           run-at = λ q. absurd (false≢true q);
           wait-at = λ q. rw (o, r .begun-is, p .run-at a);
-          shown-at = λ q. rw (o, p .shown-at q) (shown-stays bs (wholeIn h) (waitsIn h) (eqb (b .shown .number) (suc (begunIn h))) (b .read));
+          shown-at = λ q. rw (o, p .shown-at q) (shown-stays x y z (wholeIn h) (waitsIn h) (eqb (b .shown .number) (suc (begunIn h))) (b .read));
           wait-le = omega (arith, r .begun-is);
           shown-le = p .shown-le;
           none-read = p .none-read;
@@ -135,8 +136,8 @@ names-enter (finished bs) u b h a r p = at (b .burst) refl
           shown-le = omega (arith, r .begun-is);
           none-read = λ q. refl;
         })
-names-enter lost u b h a r p = record {
-  named = λ k. named-lost (begunIn h) noReading noReading k (openIn h) (wholeIn h) (waitsIn h) (eqb k (suc (begunIn h))) (fate h k);
+names-enter lost u c b h a r p = record {
+  named = λ k. named-lost (begunIn h) noMeasurement noMeasurement k (openIn h) (wholeIn h) (waitsIn h) (eqb k (suc (begunIn h))) (fate h k);
   run-at = λ e. absurd (false≢true e);
   wait-at = λ e. absurd (false≢true e);
   shown-at = λ e. absurd (false≢true e);
@@ -144,7 +145,7 @@ names-enter lost u b h a r p = record {
   shown-le = omega arith;
   none-read = λ e. refl;
 }
-names-enter opened u b h a r p = record {
+names-enter (opened i) u c b h a r p = record {
   named = p .named;
   run-at = p .run-at;
   wait-at = p .wait-at;
@@ -153,7 +154,7 @@ names-enter opened u b h a r p = record {
   shown-le = p .shown-le;
   none-read = p .none-read;
 }
-names-enter (gave i v) u b h a r p = record {
+names-enter (gave v) u c b h a r p = record {
   named = p .named;
   run-at = p .run-at;
   wait-at = p .wait-at;
@@ -162,9 +163,18 @@ names-enter (gave i v) u b h a r p = record {
   shown-le = p .shown-le;
   none-read = p .none-read;
 }
-names-enter closed u b h a r p = at (wholeIn h) refl
+names-enter (changed x) u c b h a r p = record {
+  named = p .named;
+  run-at = p .run-at;
+  wait-at = p .wait-at;
+  shown-at = p .shown-at;
+  wait-le = p .wait-le;
+  shown-le = p .shown-le;
+  none-read = p .none-read;
+}
+names-enter closed u c b h a r p = at (wholeIn h) refl
   where
-    moves : (g : Bool) → wholeIn h ≡ g → (k : ℕ) → Named u (begunIn h) noReading (latest b) k (fate (closed ∷ h) k)
+    moves : (g : Bool) → wholeIn h ≡ g → (k : ℕ) → Named u (begunIn h) noMeasurement (latest b) k (fate (closed ∷ h) k)
     moves g e k = rw (e, ← r .waits-is)
         (named-closed (begunIn h) (b .waiting) (b .shown) k (openIn h) g (some (b .waiting)) (eqb k (suc (begunIn h))) u refl (fate h k) (p .named k))
 
@@ -180,7 +190,7 @@ names-enter closed u b h a r p = at (wholeIn h) refl
     idle f q true w s = rw w
     idle f q false w s = rw w (q (rw w at s))
 
-    at : (g : Bool) → wholeIn h ≡ g → Names u (enter closed (wholeIn h) b) (closed ∷ h)
+    at : (g : Bool) → wholeIn h ≡ g → Names u (enter closed (wholeIn h) c b) (closed ∷ h)
     at true e = rw (e, enter) (record {
       named = moves true e;
       run-at = λ q. rw (p .run-at q);

@@ -4,12 +4,14 @@ use mathlib.Core.Path.{_≡_, refl, sym, ap, ap₂, _∙_}
 use mathlib.Core.Bool.{Bool, true, false, cond, false≢true}
 use mathlib.Core.List.{List, [], _∷_}
 use native.Mathlib.Omega.{arith}
-use Rattle.ledger.specs.History.{Happening, began, finished, lost, opened, gave, closed, begunIn, codesIn, openIn, wholeIn, waitsIn, Reading, lastFinished, shownBy, bit}
+use Rattle.machine.specs.declared.Codes.{Codes}
+use Rattle.ledger.specs.Happening.{Happening, began, finished, lost, opened, gave, closed, changed}
+use Rattle.ledger.specs.History.{begunIn, codesIn, openIn, wholeIn, waitsIn, Measurement, lastFinished, shownBy, bit}
 use Rattle.ledger.proofs.Tally.{Counts, counts, same, add, oneRuns, flow, total, total-none, total-flow, total-began, counted, adds-up}
 use Rattle.ledger.proofs.Book.{Book, nonzero, nonzero-pos, some, unread, latest, fresh, enter, Asks, runs, unread-whole, unread-partial}
 
 -- the conversion that is shown, in a burst or not
-abbrev shownNow : List Happening → Reading
+abbrev shownNow : List Happening → Measurement
 shownNow h = cond (openIn h) (shownBy h) (lastFinished h)
 
 -- u: one is running
@@ -43,11 +45,12 @@ right-fresh = record {
 -- where no burst is open nothing waits
 pub none-waits : (h : List Happening) → openIn h ≡ false → waitsIn h ≡ false
 none-waits [] e = refl
-none-waits (began c ∷ h) e = none-waits h e
-none-waits (finished bs ∷ h) e = e
+none-waits (began ∷ h) e = none-waits h e
+none-waits (finished x y z ∷ h) e = e
 none-waits (lost ∷ h) e = refl
-none-waits (opened ∷ h) e = refl
-none-waits (gave a v ∷ h) e = none-waits h e
+none-waits (opened i ∷ h) e = refl
+none-waits (gave v ∷ h) e = none-waits h e
+none-waits (changed c ∷ h) e = none-waits h e
 none-waits (closed ∷ h) e = refl
 
 -- the counts add up
@@ -67,41 +70,42 @@ right-sum u b h r =
       r .begun-is,
     )
 
-partial-flow : (o u : Bool) (b : Book) → flow closed o false (some (b .waiting)) (kept u b) ≡ kept u (enter closed false b)
-partial-flow o u b = at (some (b .waiting)) refl
+partial-flow : (o u : Bool) (c : Codes) (b : Book) → flow closed o false (some (b .waiting)) (kept u b) ≡ kept u (enter closed false c b)
+partial-flow o u c b = at (some (b .waiting)) refl
   where
-    at : (w : Bool) → some (b .waiting) ≡ w → flow closed o false (some (b .waiting)) (kept u b) ≡ kept u (enter closed false b)
+    at : (w : Bool) → some (b .waiting) ≡ w → flow closed o false (some (b .waiting)) (kept u b) ≡ kept u (enter closed false c b)
     at true e = rw (e, e)
     at false e = rw e (same refl (omega arith) refl refl refl (omega arith))
 
-pub right-enter : (x : Happening) (u : Bool) (b : Book) (h : List Happening) → Asks x u (b .burst) → Right u b h
-    → Right (runs x u) (enter x (wholeIn h) b) (x ∷ h)
-right-enter (began c) u b h a r = record {
+-- c: the codes that are latched after it
+pub right-enter : (x : Happening) (u : Bool) (c : Codes) (b : Book) (h : List Happening) → (runs x u ≡ true → c ≡ codesIn (x ∷ h)) → Asks x u (b .burst) → Right u b h
+    → Right (runs x u) (enter x (wholeIn h) c b) (x ∷ h)
+right-enter began u c b h q a r = record {
   begun-is = omega (arith, r .begun-is);
   begun-some = omega arith;
-  codes-is = λ e. refl;
+  codes-is = q;
   open-is = r .open-is;
   waits-is = r .waits-is;
   shown-is = r .shown-is;
   latest-is = r .latest-is;
   counts-are =
-      total-began c h ∙ ap (add oneRuns) (r .counts-are)
+      total-began h ∙ ap (add oneRuns) (r .counts-are)
       ∙ same (omega arith) (omega arith) (omega arith) (omega (arith, ap bit a)) (omega arith) (omega arith);
   standing-is = omega (arith, ap bit a, r .standing-is);
 }
-right-enter (finished bs) u b h a r = at (b .burst) refl
+right-enter (finished x y z) u c b h q a r = at (b .burst) refl
   where
     one : nonzero (b .ledger .begun) ≡ true
     one = nonzero-pos (b .ledger .begun) (omega (arith, r .begun-is, r .begun-some, ap bit a))
 
-    flown : (o : Bool) → b .burst ≡ o → total (finished bs ∷ h) ≡ flow (finished bs) o (wholeIn h) (waitsIn h) (kept u b)
-    flown o e = total-flow (finished bs) h refl ∙ ap₂ (λ o t. flow (finished bs) o (wholeIn h) (waitsIn h) t) (sym (r .open-is) ∙ e) (r .counts-are)
+    flown : (o : Bool) → b .burst ≡ o → total (finished x y z ∷ h) ≡ flow (finished x y z) o (wholeIn h) (waitsIn h) (kept u b)
+    flown o e = total-flow (finished x y z) h refl ∙ ap₂ (λ o t. flow (finished x y z) o (wholeIn h) (waitsIn h) t) (sym (r .open-is) ∙ e) (r .counts-are)
 
-    at : (o : Bool) → b .burst ≡ o → Right false (enter (finished bs) (wholeIn h) b) (finished bs ∷ h)
+    at : (o : Bool) → b .burst ≡ o → Right false (enter (finished x y z) (wholeIn h) c b) (finished x y z ∷ h)
     at true e = rw (e, enter) (record {
       begun-is = r .begun-is;
       begun-some = omega arith;
-      codes-is = λ q. absurd (false≢true q);
+      codes-is = q;
       open-is = sym e ∙ r .open-is;
       waits-is = one ∙ sym e ∙ r .open-is;
       shown-is = r .shown-is ∙ rw (← r .open-is, e);
@@ -114,7 +118,7 @@ right-enter (finished bs) u b h a r = at (b .burst) refl
         rw (e, enter) (record {
           begun-is = r .begun-is;
           begun-some = omega arith;
-          codes-is = λ q. absurd (false≢true q);
+          codes-is = q;
           open-is = sym e ∙ r .open-is;
           waits-is = sym e ∙ r .open-is;
           shown-is = rw (← r .open-is, e) (cc (r .begun-is, r .codes-is a));
@@ -122,10 +126,10 @@ right-enter (finished bs) u b h a r = at (b .burst) refl
           counts-are = flown false e ∙ same refl (omega (arith, ap bit idle)) refl refl refl (rw (a, one));
           standing-is = rw one (omega (arith, r .standing-is, ap bit idle, ap bit a));
         })
-right-enter lost u b h a r = record {
+right-enter lost u c b h q a r = record {
   begun-is = r .begun-is;
   begun-some = omega arith;
-  codes-is = λ e. absurd (false≢true e);
+  codes-is = q;
   open-is = refl;
   waits-is = refl;
   shown-is = refl;
@@ -133,53 +137,64 @@ right-enter lost u b h a r = record {
   counts-are = total-flow lost h refl ∙ ap (flow lost (openIn h) (wholeIn h) (waitsIn h)) (r .counts-are) ∙ same refl refl (omega (arith, r .standing-is)) refl refl refl;
   standing-is = refl;
 }
-right-enter opened u b h a r = record {
+right-enter (opened i) u c b h q a r = record {
   begun-is = r .begun-is;
   begun-some = r .begun-some;
-  codes-is = r .codes-is;
+  codes-is = q;
   open-is = refl;
   waits-is = r .waits-is ∙ none-waits h (sym (r .open-is) ∙ a);
   shown-is = r .shown-is ∙ rw (← r .open-is, a);
   latest-is = r .latest-is;
-  counts-are = total-flow opened h refl ∙ r .counts-are;
+  counts-are = total-flow (opened i) h refl ∙ r .counts-are;
   standing-is = r .standing-is;
 }
-right-enter (gave i v) u b h a r = record {
+right-enter (gave v) u c b h q a r = record {
   begun-is = r .begun-is;
   begun-some = r .begun-some;
-  codes-is = r .codes-is;
+  codes-is = q;
   open-is = r .open-is;
   waits-is = r .waits-is;
   shown-is = r .shown-is;
   latest-is = r .latest-is;
-  counts-are = total-flow (gave i v) h refl ∙ r .counts-are;
+  counts-are = total-flow (gave v) h refl ∙ r .counts-are;
   standing-is = r .standing-is;
 }
-right-enter closed u b h a r = at (wholeIn h) refl
+right-enter (changed x) u c b h q a r = record {
+  begun-is = r .begun-is;
+  begun-some = r .begun-some;
+  codes-is = q;
+  open-is = r .open-is;
+  waits-is = r .waits-is;
+  shown-is = r .shown-is;
+  latest-is = r .latest-is;
+  counts-are = total-flow (changed x) h refl ∙ r .counts-are;
+  standing-is = r .standing-is;
+}
+right-enter closed u c b h q a r = at (wholeIn h) refl
   where
     flown : (g : Bool) → wholeIn h ≡ g → total (closed ∷ h) ≡ flow closed (openIn h) g (some (b .waiting)) (kept u b)
     flown g e = total-flow closed h refl ∙ rw (e, ← r .waits-is) (ap (flow closed (openIn h) g (some (b .waiting))) (r .counts-are))
 
-    at : (g : Bool) → wholeIn h ≡ g → Right u (enter closed (wholeIn h) b) (closed ∷ h)
+    at : (g : Bool) → wholeIn h ≡ g → Right u (enter closed (wholeIn h) c b) (closed ∷ h)
     at true e = rw (e, enter) (record {
       begun-is = r .begun-is;
       begun-some = r .begun-some;
-      codes-is = r .codes-is;
+      codes-is = q;
       open-is = refl;
       waits-is = refl;
       shown-is = r .latest-is;
       latest-is = r .latest-is;
-      counts-are = flown true e ∙ same refl refl refl refl refl (sym (unread-whole b));
-      standing-is = omega (arith, r .standing-is, unread-whole b);
+      counts-are = flown true e ∙ same refl refl refl refl refl (sym (unread-whole c b));
+      standing-is = omega (arith, r .standing-is, unread-whole c b);
     })
     at false e = rw (e, enter) (record {
       begun-is = r .begun-is;
       begun-some = r .begun-some;
-      codes-is = r .codes-is;
+      codes-is = q;
       open-is = refl;
       waits-is = refl;
       shown-is = r .latest-is;
       latest-is = r .latest-is;
-      counts-are = flown false e ∙ partial-flow (openIn h) u b;
-      standing-is = omega (arith, r .standing-is, unread-partial b);
+      counts-are = flown false e ∙ partial-flow (openIn h) u c b;
+      standing-is = omega (arith, r .standing-is, unread-partial c b);
     })

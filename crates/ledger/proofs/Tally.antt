@@ -7,8 +7,8 @@ use mathlib.Core.List.{List, [], _∷_}
 use native.Mathlib.Omega.{arith}
 use lib.Dec.{eqb}
 use borrow.Author.Tests.{eqb-false, eq-eqb, ne-eqb}
-use Rattle.machine.specs.declared.Codes.{Codes}
-use Rattle.ledger.specs.History.{Happening, began, finished, lost, opened, gave, closed, begunIn, openIn, wholeIn, waitsIn, isPresent}
+use Rattle.ledger.specs.Happening.{Happening, began, finished, lost, opened, gave, closed, changed}
+use Rattle.ledger.specs.History.{begunIn, openIn, wholeIn, waitsIn, isPresent}
 use Rattle.ledger.specs.History.{delivered, overwritten, abandoned, standing, bit, count}
 use Rattle.ledger.specs.Statements.{places}
 use Rattle.ledger.proofs.Fate.{Fate, Unbegun, Running, Waiting, Unread, Read, Delivered, Overwritten, Abandoned, every, Sight, sightOf, move, fate, above, zeroth, agree, stands}
@@ -55,12 +55,13 @@ tally (suc n) h = add (one (fate h (suc n))) (tally n h)
 -- ---- how a happening moves it
 
 abbrev pub flow : Happening → Bool → Bool → Bool → Counts → Counts
-flow (began c) o g w t = t
-flow (finished bs) true g w t = counts (t .delivered) (t .overwritten + t .waiting) (t .abandoned) 0 (t .running) (t .unread)
-flow (finished bs) false g w t = counts (t .delivered) (t .overwritten + (t .waiting + t .unread)) (t .abandoned) 0 0 (t .running)
+flow began o g w t = t
+flow (finished x y z) true g w t = counts (t .delivered) (t .overwritten + t .waiting) (t .abandoned) 0 (t .running) (t .unread)
+flow (finished x y z) false g w t = counts (t .delivered) (t .overwritten + (t .waiting + t .unread)) (t .abandoned) 0 0 (t .running)
 flow lost o g w t = counts (t .delivered) (t .overwritten) (t .abandoned + (t .running + (t .waiting + t .unread))) 0 0 0
-flow opened o g w t = t
-flow (gave a v) o g w t = t
+flow (opened i) o g w t = t
+flow (gave v) o g w t = t
+flow (changed c) o g w t = t
 flow closed o true w t = counts (t .delivered + t .unread) (t .overwritten) (t .abandoned) (t .running) 0 (t .waiting)
 flow closed o false true t = counts (t .delivered) (t .overwritten + t .unread) (t .abandoned) (t .running) 0 (t .waiting)
 flow closed o false false t = counts (t .delivered) (t .overwritten) (t .abandoned) (t .running) 0 (t .waiting + t .unread)
@@ -69,35 +70,38 @@ abbrev Flows : Happening → Bool → Bool → Bool → Fate → Type 0
 Flows x o g w p = one (move x o g w false p) ≡ flow x o g w (one p)
 
 flows : (x : Happening) (o g w : Bool) (p : Fate) → Flows x o g w p
-flows (began c) o g w p = refl
-flows (finished bs) true g w p = every (Flows (finished bs) true g w) refl refl refl refl refl refl refl refl p
-flows (finished bs) false g w p = every (Flows (finished bs) false g w) refl refl refl refl refl refl refl refl p
+flows began o g w p = refl
+flows (finished x y z) true g w p = every (Flows (finished x y z) true g w) refl refl refl refl refl refl refl refl p
+flows (finished x y z) false g w p = every (Flows (finished x y z) false g w) refl refl refl refl refl refl refl refl p
 flows lost o g w p = every (Flows lost o g w) refl refl refl refl refl refl refl refl p
-flows opened o g w p = refl
-flows (gave a v) o g w p = refl
+flows (opened i) o g w p = refl
+flows (gave v) o g w p = refl
+flows (changed c) o g w p = refl
 flows closed o true true p = every (Flows closed o true true) refl refl refl refl refl refl refl refl p
 flows closed o true false p = every (Flows closed o true false) refl refl refl refl refl refl refl refl p
 flows closed o false true p = every (Flows closed o false true) refl refl refl refl refl refl refl refl p
 flows closed o false false p = every (Flows closed o false false) refl refl refl refl refl refl refl refl p
 
 flow-add : (x : Happening) (o g w : Bool) (s t : Counts) → add (flow x o g w s) (flow x o g w t) ≡ flow x o g w (add s t)
-flow-add (began c) o g w s t = refl
-flow-add (finished bs) true g w s t = same refl (omega arith) refl refl refl refl
-flow-add (finished bs) false g w s t = same refl (omega arith) refl refl refl refl
+flow-add began o g w s t = refl
+flow-add (finished x y z) true g w s t = same refl (omega arith) refl refl refl refl
+flow-add (finished x y z) false g w s t = same refl (omega arith) refl refl refl refl
 flow-add lost o g w s t = same refl refl (omega arith) refl refl refl
-flow-add opened o g w s t = refl
-flow-add (gave a v) o g w s t = refl
+flow-add (opened i) o g w s t = refl
+flow-add (gave v) o g w s t = refl
+flow-add (changed c) o g w s t = refl
 flow-add closed o true w s t = same (omega arith) refl refl refl refl refl
 flow-add closed o false true s t = same refl (omega arith) refl refl refl refl
 flow-add closed o false false s t = same refl refl refl refl refl (omega arith)
 
 flow-nought : (x : Happening) (o g w : Bool) → nought ≡ flow x o g w nought
-flow-nought (began c) o g w = refl
-flow-nought (finished bs) true g w = refl
-flow-nought (finished bs) false g w = refl
+flow-nought began o g w = refl
+flow-nought (finished x y z) true g w = refl
+flow-nought (finished x y z) false g w = refl
 flow-nought lost o g w = refl
-flow-nought opened o g w = refl
-flow-nought (gave a v) o g w = refl
+flow-nought (opened i) o g w = refl
+flow-nought (gave v) o g w = refl
+flow-nought (changed c) o g w = refl
 flow-nought closed o true w = refl
 flow-nought closed o false true = refl
 flow-nought closed o false false = refl
@@ -121,9 +125,9 @@ pub total-flow : (x : Happening) (h : List Happening) → begunIn (x ∷ h) ≡ 
 unfolding total
 total-flow x h e = rw e (tally-flow x (begunIn h) h (omega arith))
 
-pub total-began : (c : Codes) (h : List Happening) → total (began c ∷ h) ≡ add oneRuns (total h)
+pub total-began : (h : List Happening) → total (began ∷ h) ≡ add oneRuns (total h)
 unfolding total
-total-began c h = rw (eq-eqb (suc (begunIn h)) (suc (begunIn h)) refl) (ap (add oneRuns) (tally-flow (began c) (begunIn h) h (omega arith)))
+total-began h = rw (eq-eqb (suc (begunIn h)) (suc (begunIn h)) refl) (ap (add oneRuns) (tally-flow began (begunIn h) h (omega arith)))
 
 -- ---- the four places are read off it
 
@@ -183,12 +187,13 @@ abbrev weight : Counts → ℕ
 weight t = t .delivered + t .overwritten + t .abandoned + (t .running + t .waiting + t .unread)
 
 weight-flow : (x : Happening) (o g w : Bool) (t : Counts) → weight (flow x o g w t) ≡ weight t
-weight-flow (began c) o g w t = refl
-weight-flow (finished bs) true g w t = omega arith
-weight-flow (finished bs) false g w t = omega arith
+weight-flow began o g w t = refl
+weight-flow (finished x y z) true g w t = omega arith
+weight-flow (finished x y z) false g w t = omega arith
 weight-flow lost o g w t = omega arith
-weight-flow opened o g w t = refl
-weight-flow (gave a v) o g w t = refl
+weight-flow (opened i) o g w t = refl
+weight-flow (gave v) o g w t = refl
+weight-flow (changed c) o g w t = refl
 weight-flow closed o true w t = omega arith
 weight-flow closed o false true t = omega arith
 weight-flow closed o false false t = omega arith
@@ -202,12 +207,13 @@ begun-one (x ∷ h) k l m = go x m (eqb k (suc (begunIn h))) refl (begun-one h k
 
     go : (x : Happening) → k ≤ begunIn (x ∷ h) → (b : Bool) → eqb k (suc (begunIn h)) ≡ b → (k ≤ begunIn h → weight (one (fate h k)) ≡ 1)
         → weight (one (fate (x ∷ h) k)) ≡ 1
-    go (began c) m true e i = rw e
-    go (began c) m false e i = old (began c) e (i (omega (arith, eqb-false k (suc (begunIn h)) e)))
-    go (finished bs) m _ e i = old (finished bs) (ne-eqb k (suc (begunIn h)) (λ q. omega arith)) (i m)
+    go began m true e i = rw e
+    go began m false e i = old began e (i (omega (arith, eqb-false k (suc (begunIn h)) e)))
+    go (finished x y z) m _ e i = old (finished x y z) (ne-eqb k (suc (begunIn h)) (λ q. omega arith)) (i m)
     go lost m _ e i = old lost (ne-eqb k (suc (begunIn h)) (λ q. omega arith)) (i m)
-    go opened m _ e i = i m
-    go (gave a v) m _ e i = i m
+    go (opened a) m _ e i = i m
+    go (gave v) m _ e i = i m
+    go (changed c) m _ e i = i m
     go closed m _ e i = old closed (ne-eqb k (suc (begunIn h)) (λ q. omega arith)) (i m)
 
 pub in-one : (h : List Happening) (k : ℕ) → 1 ≤ k → k ≤ begunIn h → places h k ≡ 1

@@ -5,29 +5,33 @@ use mathlib.Core.Bool.{Bool, true, false, not, cond}
 use mathlib.Core.List.{List, [], _∷_}
 use lib.Dec.{eqb}
 use lib.ListN.{length}
-use borrow.Author.Tests.{lt-leb, ne-eqb, eq-eqb}
+use borrow.Author.Tests.{lt-ltb, lt-leb, ne-eqb, eq-eqb, eqb-true}
 use Rattle.paper.specs.Numbers.{done, wrongPhase, allBegun}
 use Rattle.paper.specs.Registers as reg
 use Rattle.machine.specs.declared.Phase.{Phase}
 use Rattle.machine.specs.declared.Phase.the-variants.{Sleep, Forced, Normal, Standby}
 use Rattle.machine.specs.declared.Held.{Held}
-use Rattle.machine.specs.declared.Held.the-variants.{Nothing}
+use Rattle.machine.specs.declared.Held.the-variants as held
 use Rattle.machine.specs.declared.Burst.{Burst}
 use Rattle.machine.specs.declared.Burst.the-variants as burst
 use Rattle.machine.specs.declared.Device.{Device}
 use Rattle.machine.specs.declared.Machine.{Machine}
 use Rattle.machine.specs.declared.Outcome.{Outcome}
 use Rattle.machine.specs.declared.Closing.{Closing}
-use Rattle.machine.specs.Fields.{withPhase, withCopying, withF2, withDevice, withBurst, withLedger}
-use Rattle.machine.specs.State.{runs, isOpen}
+use Rattle.machine.specs.Fields.{withPhase, withCopying, withF2, withHeld, withDevice, withBurst, withLedger}
+use Rattle.machine.specs.State.{runs, standsBy, isOpen}
 use Rattle.machine.specs.Counts.{isBarred, begunIf}
 use Rattle.machine.specs.Control.{phaseAfter, controlled, effect, heldBegins, heldEffect}
 use Rattle.machine.specs.Data.{inRange, stored}
-use Rattle.machine.specs.Events.{answered, mayFinish, rested, finishedOne, showing, keeping, landed, converted, awake, wholeClosing, writtenTo, closed}
+use Rattle.machine.specs.Events.{answered, heldF4, takenF4, mayFinish, rested, finishedOne, showing, keeping, landed, converted, awake, wholeClosing, writtenTo, closed}
 use Rattle.machine.specs.declared.Event.the-variants.{Finish, Wake, Open, Byte}
 use Rattle.machine.specs.Event.{next, after}
 use Rattle.ledger.specs.Alive.{Turn, Fits, byWrite, measured}
-use Rattle.ledger.proofs.Tests.{passed}
+use Rattle.ledger.proofs.Tests.{chosen, passed}
+
+in-range : (t : Turn) → Fits t → inRange (t .temperature) (t .pressure) (t .humidity) ≡ true
+in-range t f =
+    rw (lt-ltb (t .temperature) 0x100000 (f .temperature-fits), lt-ltb (t .pressure) 0x100000 (f .pressure-fits), lt-ltb (t .humidity) 0x10000 (f .humidity-fits))
 
 -- ---- it begins
 
@@ -39,41 +43,76 @@ begun m d = withDevice d (withLedger (begunIf true (m .ledger)) m)
 abbrev pub controlledBy : Turn → Device → Device
 controlledBy t d = controlled (withF2 (t .f2 % 8) d) (t .f4)
 
--- in sleep a byte of any mode but 0 leads to a conversion
-pub mode-runs : (v : ℕ) → (v % 4 ≡ 0 → ⊥) → runs (phaseAfter Sleep v) ≡ true
-mode-runs v z = ap (λ (b : Bool). runs (cond b Sleep (cond (eqb (v % 4) 3) Normal Forced))) (ne-eqb (v % 4) 0 z) ∙ at (eqb (v % 4) 3)
+-- a byte of any mode but 0 leads to a conversion, unless it is mode 3 in standby
+pub mode-runs : (p : Phase) (v : ℕ) → (v % 4 ≡ 0 → ⊥) → (v % 4 ≡ 3 → standsBy p ≡ false) → runs (phaseAfter p v) ≡ true
+mode-runs p v z y =
+    ap (λ (b : Bool). runs (cond b Sleep (cond (eqb (v % 4) 3) (cond (standsBy p) Standby Normal) Forced))) (ne-eqb (v % 4) 0 z) ∙ at (eqb (v % 4) 3) refl
   where
-    at : (b : Bool) → runs (cond b Normal Forced) ≡ true
-    at true = refl
-    at false = refl
+    at : (b : Bool) → eqb (v % 4) 3 ≡ b → runs (cond b (cond (standsBy p) Standby Normal) Forced) ≡ true
+    at true e = rw (y (eqb-true (v % 4) 3 e))
+    at false e = refl
 
--- sleeping, not copying, with no burst
-abbrev asleep : Phase → Bool → Burst → Machine → Machine
-asleep p c b m = withBurst b (withDevice (withPhase p (withCopying c (m .device))) m)
+-- in the phase p, not copying, with no burst
+abbrev idling : Phase → Bool → Burst → Machine → Machine
+idling p c b m = withBurst b (withDevice (withPhase p (withCopying c (m .device))) m)
 
-same-asleep : (m : Machine) {p q : Phase} {c d : Bool} {b k : Burst} → p ≡ q → c ≡ d → b ≡ k → asleep p c b m ≡ asleep q d k m
-same-asleep m e f g = cc
+same-idling : (m : Machine) {p q : Phase} {c d : Bool} {b k : Burst} → p ≡ q → c ≡ d → b ≡ k → idling p c b m ≡ idling q d k m
+same-idling m e f g = cc
 
-module _ (m : Machine) (t : Turn) (room : m .ledger .begun < reg.mostBegun) (mode : t .f4 % 4 ≡ 0 → ⊥) where
-  abbrev sleeper : Machine
-  sleeper = asleep Sleep false burst.Closed m
+module _ (m : Machine) (t : Turn) (p : Phase) (idle : runs p ≡ false) where
+  abbrev idler : Machine
+  idler = idling p false burst.Closed m
 
   abbrev f2-set : Machine
-  f2-set = withDevice (withF2 (t .f2 % 8) (sleeper .device)) sleeper
+  f2-set = withDevice (withF2 (t .f2 % 8) (idler .device)) idler
 
-  free : isBarred (runs (phaseAfter Sleep (t .f4))) (m .ledger) ≡ false
-  free = ap (λ (b : Bool). isBarred b (m .ledger)) (mode-runs (t .f4) mode) ∙ lt-leb reg.mostBegun (m .ledger .begun) room
+  -- one more is counted if one begins
+  abbrev taken : Bool → Machine → Machine
+  taken b k = withDevice (controlledBy t (k .device)) (withLedger (begunIf b (k .ledger)) k)
 
-  sleeper-begins : after sleeper (byWrite t) ≡ begun sleeper (controlledBy t (sleeper .device))
+  idler-takes : (b : Bool) → runs (phaseAfter p (t .f4)) ≡ b → isBarred b (m .ledger) ≡ false → after idler (byWrite t) ≡ taken b idler
   unfolding effect
-  sleeper-begins =
-      ap (λ (o : Outcome). o .machine) (passed (isBarred (runs (phaseAfter Sleep (t .f4))) (m .ledger)) (answered allBegun f2-set) (answered done (effect f2-set (t .f4))) free)
-      ∙ ap (λ (b : Bool). withDevice (controlledBy t (sleeper .device)) (withLedger (begunIf b (m .ledger)) sleeper)) (mode-runs (t .f4) mode)
+  idler-takes b e free =
+      ap (λ (o : Outcome). o .machine)
+      (passed (runs p) (heldF4 f2-set (t .f4)) (takenF4 f2-set (t .f4)) idle
+      ∙ passed (isBarred (runs (phaseAfter p (t .f4))) (m .ledger)) (answered allBegun f2-set) (answered done (effect f2-set (t .f4)))
+      (ap (λ (b : Bool). isBarred b (m .ledger)) e ∙ free))
+      ∙ ap (λ (b : Bool). withDevice (controlledBy t (idler .device)) (withLedger (begunIf b (m .ledger)) idler)) e
 
-  pub write-begins : m .device .phase ≡ Sleep → m .device .copying ≡ false → m .burst ≡ burst.Closed → after m (byWrite t) ≡ begun m (controlledBy t (m .device))
-  write-begins p c b =
-      ap (λ (k : Machine). after k (byWrite t)) (same-asleep m p c b) ∙ sleeper-begins
-      ∙ sym (ap (λ (k : Machine). begun k (controlledBy t (k .device))) (same-asleep m p c b))
+  write-takes : (b : Bool) → runs (phaseAfter p (t .f4)) ≡ b → isBarred b (m .ledger) ≡ false
+      → m .device .phase ≡ p → m .device .copying ≡ false → m .burst ≡ burst.Closed → after m (byWrite t) ≡ taken b m
+  write-takes b e free q c o =
+      ap (λ (k : Machine). after k (byWrite t)) (same-idling m q c o) ∙ idler-takes b e free ∙ sym (ap (taken b) (same-idling m q c o))
+
+  -- F4 that begins a conversion, and F4 that begins none
+  pub write-begins : runs (phaseAfter p (t .f4)) ≡ true → m .ledger .begun < reg.mostBegun
+      → m .device .phase ≡ p → m .device .copying ≡ false → m .burst ≡ burst.Closed → after m (byWrite t) ≡ begun m (controlledBy t (m .device))
+  write-begins e room = write-takes true e (lt-leb reg.mostBegun (m .ledger .begun) room)
+
+  pub write-latches : runs (phaseAfter p (t .f4)) ≡ false
+      → m .device .phase ≡ p → m .device .copying ≡ false → m .burst ≡ burst.Closed → after m (byWrite t) ≡ withDevice (controlledBy t (m .device)) m
+  write-latches e = write-takes false e refl
+
+-- F4 during a conversion is held
+module _ (m : Machine) (t : Turn) where
+  abbrev pub holding : Machine
+  holding = withDevice (withHeld (held.Byte (t .f4)) (withF2 (t .f2 % 8) (m .device))) m
+
+  abbrev holder : Held → Bool → Burst → Machine
+  holder q c b = withBurst b (withDevice (withHeld q (withCopying c (m .device))) m)
+
+  same-holder : {p q : Held} {c d : Bool} {b k : Burst} → p ≡ q → c ≡ d → b ≡ k → holder p c b ≡ holder q d k
+  same-holder e f g = cc
+
+  abbrev held-f2 : Machine
+  held-f2 = let k = holder held.Nothing false burst.Closed in withDevice (withF2 (t .f2 % 8) (k .device)) k
+
+  pub write-holds : runs (m .device .phase) ≡ true → m .device .held ≡ held.Nothing → m .device .copying ≡ false → m .burst ≡ burst.Closed
+      → after m (byWrite t) ≡ holding
+  write-holds u n c b =
+      ap (λ (k : Machine). after k (byWrite t)) (same-holder n c b)
+      ∙ ap (λ (o : Outcome). o .machine) (chosen (runs (m .device .phase)) (heldF4 held-f2 (t .f4)) (takenF4 held-f2 (t .f4)) u)
+      ∙ ap (λ (k : Machine). withDevice (withHeld (held.Byte (t .f4)) (withF2 (t .f2 % 8) (k .device))) k) (sym (same-holder n c b))
 
 pub wake-begins : (m : Machine) → m .device .phase ≡ Standby → m .ledger .begun < reg.mostBegun → next m Wake ≡ awake m
 wake-begins m p room =
@@ -86,24 +125,49 @@ module _ (m : Machine) (t : Turn) where
   abbrev bytes : List ℕ
   bytes = stored (m .device) (t .temperature) (t .pressure) (t .humidity)
 
-  -- the conversion is shown, and the device rests
-  abbrev done-with : Machine
+  -- the conversion lands, and the device rests
+  abbrev pub landed-with : Machine
+  landed-with = withDevice (rested (m .device)) (landed (finishedOne m bytes) m)
+
+  -- where no burst is open it is shown
+  abbrev pub done-with : Machine
   done-with = withDevice (rested (m .device)) (showing (finishedOne m bytes) m)
+
+  pub lands-shown : m .burst ≡ burst.Closed → landed-with ≡ done-with
+  lands-shown b = ap (withDevice (rested (m .device))) (passed (isOpen (m .burst)) (keeping (finishedOne m bytes) m) (showing (finishedOne m bytes) m) (ap isOpen b))
 
   abbrev pub read-from : Machine
   read-from = withBurst (burst.Open reg.firstData reg.lastRegister) done-with
 
-  module _ (f : Fits t) (u : runs (m .device .phase) ≡ true) (n : m .device .held ≡ Nothing) (b : m .burst ≡ burst.Closed) where
+  -- and then what is held takes effect
+  finishes-with : Fits t → runs (m .device .phase) ≡ true → (q : Held) → m .device .held ≡ q
+      → isBarred (heldBegins q (rested (m .device) .phase)) (m .ledger) ≡ false
+      → next m (Finish (t .temperature) (t .pressure) (t .humidity)) ≡ heldEffect q landed-with
+  finishes-with f u q n free =
+      ap (λ (o : Outcome). o .machine)
+      (passed (not (mayFinish (m .device))) (answered wrongPhase m) _ (ap not u)
+      ∙ passed (not (inRange (t .temperature) (t .pressure) (t .humidity))) _ _ (ap not (in-range t f))
+      ∙ passed (isBarred (heldBegins (m .device .held) (rested (m .device) .phase)) (m .ledger)) _ (answered done (converted m bytes))
+      (ap (λ (q : Held). isBarred (heldBegins q (rested (m .device) .phase)) (m .ledger)) n ∙ free))
+      ∙ ap (λ (q : Held). heldEffect q landed-with) n
+
+  -- a held F4, which begins a conversion or none
+  pub finish-takes : Fits t → runs (m .device .phase) ≡ true → (v : ℕ) → m .device .held ≡ held.Byte v → (b : Bool) → runs (phaseAfter (rested (m .device) .phase) v) ≡ b
+      → m .ledger .begun < reg.mostBegun → next m (Finish (t .temperature) (t .pressure) (t .humidity))
+      ≡ withDevice (controlled (rested (m .device)) v) (withLedger (begunIf b (landed-with .ledger)) landed-with)
+  unfolding effect heldEffect
+  finish-takes f u v n b e room =
+      finishes-with f u (held.Byte v) n (at (runs (phaseAfter (rested (m .device) .phase) v)))
+      ∙ ap (λ (b : Bool). withDevice (controlled (rested (m .device)) v) (withLedger (begunIf b (landed-with .ledger)) landed-with)) e
+    where
+      at : (b : Bool) → isBarred b (m .ledger) ≡ false
+      at true = lt-leb reg.mostBegun (m .ledger .begun) room
+      at false = refl
+
+  module _ (f : Fits t) (u : runs (m .device .phase) ≡ true) (n : m .device .held ≡ held.Nothing) (b : m .burst ≡ burst.Closed) where
     finishes : next m (Finish (t .temperature) (t .pressure) (t .humidity)) ≡ done-with
     unfolding heldEffect
-    finishes =
-        ap (λ (o : Outcome). o .machine)
-        (passed (not (mayFinish (m .device))) (answered wrongPhase m) _ (ap not u)
-        ∙ passed (not (inRange (t .temperature) (t .pressure) (t .humidity))) _ _ (ap not (f .counts-fit))
-        ∙ passed (isBarred (heldBegins (m .device .held) (rested (m .device) .phase)) (m .ledger)) _ (answered done (converted m bytes))
-        (ap (λ (q : Held). isBarred (heldBegins q (rested (m .device) .phase)) (m .ledger)) n))
-        ∙ ap (λ (q : Held). heldEffect q (withDevice (rested (m .device)) (landed (finishedOne m bytes) m))) n
-        ∙ ap (withDevice (rested (m .device))) (passed (isOpen (m .burst)) (keeping (finishedOne m bytes) m) (showing (finishedOne m bytes) m) (ap isOpen b))
+    finishes = finishes-with f u held.Nothing n refl ∙ lands-shown b
 
     reads : (k : Machine) → k .burst ≡ burst.Closed
         → after k (Open reg.firstData ∷ Byte ∷ Byte ∷ Byte ∷ Byte ∷ Byte ∷ Byte ∷ Byte ∷ Byte ∷ []) ≡ withBurst (burst.Open reg.firstData reg.lastRegister) k

@@ -104,11 +104,11 @@ module _ (n : ℕ) (l : n < reg.mostBegun) (m : Machine) where
   written t = begun m (controlledBy t (m .device))
 
   writes : (t : Turn) → (t .f4 % 4 ≡ 0 → ⊥) → Rests Sleep n m → after m (byWrite t) ≡ written t
-  writes t z r = write-begins m t (room Sleep r) z (r .phase-is) (r .copying-is) (r .none-open)
+  writes t z r = write-begins m t Sleep refl (mode-runs Sleep (t .f4) z (λ _. refl)) (room Sleep r) (r .phase-is) (r .copying-is) (r .none-open)
 
   write-runs : (t : Turn) → (t .f4 % 4 ≡ 0 → ⊥) → Rests Sleep n m → Runs n (written t)
   write-runs t z r = record {
-    runs-now = rw (r .phase-is) (mode-runs (t .f4) z);
+    runs-now = rw (r .phase-is) (mode-runs Sleep (t .f4) z (λ _. refl));
     copying-is = r .copying-is;
     held-is = refl;
     none-open = r .none-open;

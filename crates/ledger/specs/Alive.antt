@@ -1,25 +1,25 @@
 -- A dead machine does not pass, though the sum alone would let it: whatever came before, the next conversion begins, finishes with its own bytes, is shown
--- under its own number, and is counted, in forced mode and in normal mode, for any codes and counts (proofs/Alive.antt, proofs/Turns.antt).
-use Prim.Native.Nat.{ℕ, _+_, _/_, _%_, _<_}
+-- under its own number, and is counted, in forced mode and in normal mode, for any codes and counts (proofs/Alive.antt, proofs/Held.antt, proofs/Turns.antt).
+use Prim.Native.Nat.{ℕ, _+_, _%_, _<_}
 use mathlib.Core.Path.{_≡_}
 use mathlib.Core.Bool.{true, false}
 use mathlib.Core.List.{List, [], _∷_, _++_}
 use lib.ListN.{length}
 use Rattle.paper.specs.Numbers.{done}
 use Rattle.paper.specs.Registers as reg
-use Rattle.data.specs.Counts.{laid}
-use Rattle.machine.specs.declared.Phase.the-variants.{Sleep, Standby}
+use Rattle.machine.specs.declared.Phase.the-variants.{Sleep, Forced, Normal, Standby}
+use Rattle.machine.specs.declared.Held.the-variants.{Nothing}
 use Rattle.machine.specs.declared.Burst.the-variants.{Closed}
 use Rattle.machine.specs.declared.Codes.{Codes}
 use Rattle.machine.specs.declared.Closing.{Closing}
 use Rattle.machine.specs.declared.Ledger.{Ledger}
 use Rattle.machine.specs.declared.Machine.{Machine}
-use Rattle.machine.specs.State.{runs}
-use Rattle.machine.specs.Data.{inRange, kept}
 use Rattle.machine.specs.Events.{closed}
 use Rattle.machine.specs.declared.Event.{Event}
 use Rattle.machine.specs.declared.Event.the-variants.{Write, Finish, Wake, Open, Byte, Close}
 use Rattle.machine.specs.Event.{after}
+use Rattle.ledger.specs.Device.{isConverting, codesBy}
+use Rattle.ledger.specs.Bytes.{dataBytes}
 
 -- one turn: the bytes for F2 and F4, the three counts, and the bytes lent to the close
 pub record Turn : Type 0 where
@@ -32,23 +32,26 @@ pub record Turn : Type 0 where
 
 -- its counts have 20, 20 and 16 bits, and it lends eight bytes
 pub record Fits (t : Turn) : Type 0 where
-  pub counts-fit : inRange (t .temperature) (t .pressure) (t .humidity) ≡ true
-  pub lends-eight : length (t .lent) ≡ reg.dataLength
+  pub temperature-fits : t .temperature < 0x100000
+  pub pressure-fits : t .pressure < 0x100000
+  pub humidity-fits : t .humidity < 0x10000
+  pub lends-eight : length (t .lent) ≡ 8
+
+-- its byte for F4 asks for forced mode, 1 or 2
+pub record IsForced (t : Turn) : Type 0 where
+  pub not-sleep : t .f4 % 4 ≡ 0 → ⊥
+  pub not-normal : t .f4 % 4 ≡ 3 → ⊥
 
 -- the codes that its bytes for F4 and F2 set, and the data bytes of its counts under the codes c
 abbrev pub codesOf : Turn → Codes
-codesOf t = record { temperature = t .f4 / 32; pressure = t .f4 / 4 % 8; humidity = t .f2 % 8 }
+codesOf t = codesBy (t .f4) (t .f2 % 8)
 
 abbrev pub bytesOf : Codes → Turn → List ℕ
-bytesOf c t =
-    laid
-    (kept (c .temperature) (t .temperature) reg.skipped20)
-    (kept (c .pressure) (t .pressure) reg.skipped20)
-    (kept (c .humidity) (t .humidity) reg.skipped16)
+bytesOf c t = dataBytes c (t .temperature) (t .pressure) (t .humidity)
 
 -- what begins a conversion: F2 and F4 are written, in sleep; or the device wakes, in standby
 abbrev pub byWrite : Turn → List Event
-byWrite t = Write reg.ctrlHum (t .f2) ∷ Write reg.ctrlMeas (t .f4) ∷ []
+byWrite t = Write 0xF2 (t .f2) ∷ Write 0xF4 (t .f4) ∷ []
 
 abbrev pub byWake : List Event
 byWake = Wake ∷ []
@@ -57,12 +60,12 @@ byWake = Wake ∷ []
 abbrev pub measured : Turn → List Event
 measured t =
     Finish (t .temperature) (t .pressure) (t .humidity)
-    ∷ Open reg.firstData ∷ Byte ∷ Byte ∷ Byte ∷ Byte ∷ Byte ∷ Byte ∷ Byte ∷ Byte ∷ []
+    ∷ Open 0xF7 ∷ Byte ∷ Byte ∷ Byte ∷ Byte ∷ Byte ∷ Byte ∷ Byte ∷ Byte ∷ []
 
 -- one more has begun than in m, and runs, with the codes c
 pub record Begins (m now : Machine) (c : Codes) : Type 0 where
   pub begun-is : now .ledger .begun ≡ m .ledger .begun + 1
-  pub runs-now : runs (now .device .phase) ≡ true
+  pub runs-now : isConverting (now .device .phase) ≡ true
   pub codes-are : now .device .codes ≡ c
 
 -- the close x shows the conversion n of the turn, with the codes c, and then n have begun and d are delivered
@@ -83,7 +86,7 @@ pub record MayBeginByWrite (m : Machine) (t : Turn) : Type 0 where
   pub sleeps : m .device .phase ≡ Sleep
   pub not-copying : m .device .copying ≡ false
   pub none-open : m .burst ≡ Closed
-  pub has-room : m .ledger .begun < reg.mostBegun
+  pub has-room : m .ledger .begun < 4294967295
   pub asks : t .f4 % 4 ≡ 0 → ⊥
 
 pub record WriteRunsTruly (m : Machine) (t : Turn) : Type 0 where
@@ -95,19 +98,71 @@ pub record WriteRunsTruly (m : Machine) (t : Turn) : Type 0 where
 pub record MayBeginByWake (m : Machine) : Type 0 where
   pub stands-by : m .device .phase ≡ Standby
   pub none-open : m .burst ≡ Closed
-  pub has-room : m .ledger .begun < reg.mostBegun
+  pub has-room : m .ledger .begun < 4294967295
 
-pub record WakeRunsTruly (m : Machine) (t : Turn) : Type 0 where
-  pub begins : Begins m (after m byWake) (m .device .codes)
+-- the codes c are those that were latched
+pub record WakeRunsTruly (m : Machine) (c : Codes) (t : Turn) : Type 0 where
+  pub begins : Begins m (after m byWake) c
   pub delivers : let x = closed (after m (byWake ++ measured t)) (t .lent) in
-      Delivers (m .ledger .begun + 1) (m .ledger .delivered + 1) (m .device .codes) t (x .0) (x .1)
+      Delivers (m .ledger .begun + 1) (m .ledger .delivered + 1) c t (x .0) (x .1)
+
+-- F4 in standby, with nothing being copied
+pub record MayWriteInStandby (m : Machine) : Type 0 where
+  pub may-wake : MayBeginByWake m
+  pub not-copying : m .device .copying ≡ false
+
+-- mode 3 leaves the standby running and begins nothing, and the next wake begins with its codes; modes 1 and 2 begin as they do in sleep
+pub record LatchRunsTruly (m : Machine) (t : Turn) : Type 0 where
+  pub stands-by : after m (byWrite t) .device .phase ≡ Standby
+  pub none-begins : after m (byWrite t) .ledger ≡ m .ledger
+  pub begins : Begins m (after m (byWrite t ++ byWake)) (codesOf t)
+  pub delivers : let x = closed (after m (byWrite t ++ byWake ++ measured t)) (t .lent) in
+      Delivers (m .ledger .begun + 1) (m .ledger .delivered + 1) (codesOf t) t (x .0) (x .1)
+
+-- ---- F4 during a conversion is held, and takes effect when that one finishes
+
+-- one is running, none is held, nothing is being copied, no burst is open, and there is room for one more
+pub record MayHold (m : Machine) : Type 0 where
+  pub runs-now : isConverting (m .device .phase) ≡ true
+  pub none-held : m .device .held ≡ Nothing
+  pub not-copying : m .device .copying ≡ false
+  pub none-open : m .burst ≡ Closed
+  pub has-room : m .ledger .begun < 4294967295
+
+-- F4 asks for forced mode, or in a forced conversion for normal mode: the finish begins the next
+pub record BeginsHeld (m : Machine) (t : Turn) : Type 0 where
+  pub not-sleep : t .f4 % 4 ≡ 0 → ⊥
+  pub from-forced : t .f4 % 4 ≡ 3 → m .device .phase ≡ Forced
+
+-- or in a normal conversion for normal mode: the finish begins none, and the next wake begins with its codes
+pub record LatchesHeld (m : Machine) (t : Turn) : Type 0 where
+  pub normal : t .f4 % 4 ≡ 3
+  pub from-normal : m .device .phase ≡ Normal
+
+-- the running one finishes with the counts of s
+abbrev pub finish : Turn → Event
+finish s = Finish (s .temperature) (s .pressure) (s .humidity)
+
+-- the write begins nothing, and leaves the running one its codes
+pub record IsHeld (m : Machine) (t : Turn) : Type 0 where
+  pub none-begins : after m (byWrite t) .ledger ≡ m .ledger
+  pub codes-stay : after m (byWrite t) .device .codes ≡ m .device .codes
+
+pub record HeldRunsTruly (m : Machine) (s t : Turn) : Type 0 where
+  pub is-held : IsHeld m t
+  pub begins : Begins m (after m (byWrite t ++ finish s ∷ [])) (codesOf t)
+  pub begins-in-burst : (a : ℕ) → reg.isReadable a ≡ true → Begins m (after m (byWrite t ++ Open a ∷ finish s ∷ [])) (codesOf t)
+  pub delivers : let x = closed (after m (byWrite t ++ finish s ∷ measured t)) (t .lent) in
+      Delivers (m .ledger .begun + 1) (m .ledger .delivered + 1) (codesOf t) t (x .0) (x .1)
+
+pub record HeldLatchRunsTruly (m : Machine) (s t : Turn) : Type 0 where
+  pub is-held : IsHeld m t
+  pub none-begins : after m (byWrite t ++ finish s ∷ []) .ledger .begun ≡ m .ledger .begun
+  pub begins : Begins m (after m (byWrite t ++ finish s ∷ byWake)) (codesOf t)
+  pub delivers : let x = closed (after m (byWrite t ++ finish s ∷ byWake ++ measured t)) (t .lent) in
+      Delivers (m .ledger .begun + 1) (m .ledger .delivered + 1) (codesOf t) t (x .0) (x .1)
 
 -- ---- turn after turn, from the fresh state
-
--- its byte for F4 asks for forced mode, 1 or 2
-pub record IsForced (t : Turn) : Type 0 where
-  pub not-sleep : t .f4 % 4 ≡ 0 → ⊥
-  pub not-normal : t .f4 % 4 ≡ 3 → ⊥
 
 -- in forced mode each conversion begins by a write
 abbrev pub forcedTurns : List Turn → List Event
@@ -137,11 +192,11 @@ allDelivered n = record { begun = n; delivered = n; overwritten = 0; abandoned =
 -- After n turns the tally is theirs; and the next turn's close shows its own conversion, as number n + 1.
 pub record ForcedTurnsRunTruly (m : Machine) (n : ℕ) : Type 0 where
   pub tally-is : m .ledger ≡ allDelivered n
-  pub next-is : (t : Turn) → Fits t → IsForced t → n < reg.mostBegun → let x = closed (after m (byWrite t ++ measured t)) (t .lent) in
+  pub next-is : (t : Turn) → Fits t → IsForced t → n < 4294967295 → let x = closed (after m (byWrite t ++ measured t)) (t .lent) in
       Delivers (n + 1) (n + 1) (codesOf t) t (x .0) (x .1)
 
 -- in normal mode with the codes that the first turn set
 pub record NormalTurnsRunTruly (m : Machine) (n : ℕ) (c : Codes) : Type 0 where
   pub tally-is : m .ledger ≡ allDelivered n
-  pub next-is : (t : Turn) → Fits t → n < reg.mostBegun → let x = closed (after m (byWake ++ measured t)) (t .lent) in
+  pub next-is : (t : Turn) → Fits t → n < 4294967295 → let x = closed (after m (byWake ++ measured t)) (t .lent) in
       Delivers (n + 1) (n + 1) c t (x .0) (x .1)

@@ -4,59 +4,69 @@ use Prim.Native.Nat.{ℕ, zero, suc, _+_}
 use mathlib.Core.Bool.{Bool, true, false, not, cond, _&&_, _||_}
 use mathlib.Core.List.{List, [], _∷_}
 use lib.Dec.{eqb}
+use lib.ListN.{length}
 use Rattle.paper.specs.Registers as reg
 use Rattle.machine.specs.declared.Codes.{Codes}
-use Rattle.machine.specs.State.{noCodes}
-
--- A conversion began, with its codes; the running one finished, with its data bytes; a reset or power event came; a burst was opened; it gave the
--- register at an address, with its value; it was closed.
-pub data Happening : Type 0 where
-  began : Codes → Happening
-  finished : List ℕ → Happening
-  lost opened closed : Happening
-  gave : ℕ → ℕ → Happening
+use Rattle.ledger.specs.Happening.{Happening, began, finished, lost, opened, gave, closed, changed}
+use Rattle.ledger.specs.Device.{zeroCodes, deviceIn}
+use Rattle.ledger.specs.Bytes.{dataBytes}
 
 -- ---- conversions are numbered from 1 in order of beginning
 
 abbrev pub begunIn : List Happening → ℕ
 begunIn [] = 0
-begunIn (began c ∷ h) = suc (begunIn h)
-begunIn (finished bs ∷ h) = begunIn h
+begunIn (began ∷ h) = suc (begunIn h)
+begunIn (finished t p r ∷ h) = begunIn h
 begunIn (lost ∷ h) = begunIn h
-begunIn (opened ∷ h) = begunIn h
-begunIn (gave a v ∷ h) = begunIn h
+begunIn (opened a ∷ h) = begunIn h
+begunIn (gave v ∷ h) = begunIn h
 begunIn (closed ∷ h) = begunIn h
+begunIn (changed x ∷ h) = begunIn h
 
--- the codes that the last one began with
+-- the codes that the last one began with: those latched then
 abbrev pub codesIn : List Happening → Codes
-codesIn [] = noCodes
-codesIn (began c ∷ h) = c
-codesIn (finished bs ∷ h) = codesIn h
+codesIn [] = zeroCodes
+codesIn (began ∷ h) = deviceIn h .codes
+codesIn (finished t p r ∷ h) = codesIn h
 codesIn (lost ∷ h) = codesIn h
-codesIn (opened ∷ h) = codesIn h
-codesIn (gave a v ∷ h) = codesIn h
+codesIn (opened a ∷ h) = codesIn h
+codesIn (gave v ∷ h) = codesIn h
 codesIn (closed ∷ h) = codesIn h
+codesIn (changed x ∷ h) = codesIn h
 
 -- ---- the burst that is open at the end
 
 abbrev pub openIn : List Happening → Bool
 openIn [] = false
-openIn (began c ∷ h) = openIn h
-openIn (finished bs ∷ h) = openIn h
+openIn (began ∷ h) = openIn h
+openIn (finished t p r ∷ h) = openIn h
 openIn (lost ∷ h) = false
-openIn (opened ∷ h) = true
-openIn (gave a v ∷ h) = openIn h
+openIn (opened a ∷ h) = true
+openIn (gave v ∷ h) = openIn h
 openIn (closed ∷ h) = false
+openIn (changed x ∷ h) = openIn h
 
--- the registers that it has given, address and value, the latest first
+-- the address that it was opened at
+abbrev pub openedAt : List Happening → ℕ
+openedAt [] = 0
+openedAt (began ∷ h) = openedAt h
+openedAt (finished t p r ∷ h) = openedAt h
+openedAt (lost ∷ h) = 0
+openedAt (opened a ∷ h) = a
+openedAt (gave v ∷ h) = openedAt h
+openedAt (closed ∷ h) = 0
+openedAt (changed x ∷ h) = openedAt h
+
+-- the registers that it has given, address and value, the latest first: the first at the address that was asked for, each later one at the next
 abbrev pub givenIn : List Happening → List (ℕ × ℕ)
 givenIn [] = []
-givenIn (began c ∷ h) = givenIn h
-givenIn (finished bs ∷ h) = givenIn h
+givenIn (began ∷ h) = givenIn h
+givenIn (finished t p r ∷ h) = givenIn h
 givenIn (lost ∷ h) = []
-givenIn (opened ∷ h) = []
-givenIn (gave a v ∷ h) = (a, v) ∷ givenIn h
+givenIn (opened a ∷ h) = []
+givenIn (gave v ∷ h) = (openedAt h + length (givenIn h), v) ∷ givenIn h
 givenIn (closed ∷ h) = []
+givenIn (changed x ∷ h) = givenIn h
 
 -- one of them is at the address a
 abbrev pub hasAddress : ℕ → List (ℕ × ℕ) → Bool
@@ -79,45 +89,50 @@ wholeIn h = eachBelow reg.dataLength (gaveData h)
 -- a conversion has finished since it was opened, and waits
 abbrev pub waitsIn : List Happening → Bool
 waitsIn [] = false
-waitsIn (began c ∷ h) = waitsIn h
-waitsIn (finished bs ∷ h) = openIn h
+waitsIn (began ∷ h) = waitsIn h
+waitsIn (finished t p r ∷ h) = openIn h
 waitsIn (lost ∷ h) = false
-waitsIn (opened ∷ h) = false
-waitsIn (gave a v ∷ h) = waitsIn h
+waitsIn (opened a ∷ h) = false
+waitsIn (gave v ∷ h) = waitsIn h
 waitsIn (closed ∷ h) = false
+waitsIn (changed x ∷ h) = waitsIn h
 
 -- ---- the conversion that a burst shows
 
-pub record Reading : Type 0 where
+-- number, codes and data bytes of a finished conversion
+pub record Measurement : Type 0 where
   pub number : ℕ
   pub codes : Codes
   pub bytes : List ℕ
 
-abbrev pub noReading : Reading
-noReading = record { number = 0; codes = noCodes; bytes = reg.freshBytes }
+-- number 0 and codes 0 mean none, with the fresh bytes
+abbrev pub noMeasurement : Measurement
+noMeasurement = record { number = 0; codes = zeroCodes; bytes = reg.freshBytes }
 
 -- the last conversion that finished after the last reset or power event
-abbrev pub lastFinished : List Happening → Reading
-lastFinished [] = noReading
-lastFinished (began c ∷ h) = lastFinished h
-lastFinished (finished bs ∷ h) = record { number = begunIn h; codes = codesIn h; bytes = bs }
-lastFinished (lost ∷ h) = noReading
-lastFinished (opened ∷ h) = lastFinished h
-lastFinished (gave a v ∷ h) = lastFinished h
+abbrev pub lastFinished : List Happening → Measurement
+lastFinished [] = noMeasurement
+lastFinished (began ∷ h) = lastFinished h
+lastFinished (finished t p r ∷ h) = record { number = begunIn h; codes = codesIn h; bytes = dataBytes (codesIn h) t p r }
+lastFinished (lost ∷ h) = noMeasurement
+lastFinished (opened a ∷ h) = lastFinished h
+lastFinished (gave v ∷ h) = lastFinished h
 lastFinished (closed ∷ h) = lastFinished h
+lastFinished (changed x ∷ h) = lastFinished h
 
 -- the history before a burst was last opened
 abbrev pub beforeOpened : List Happening → List Happening
 beforeOpened [] = []
-beforeOpened (began c ∷ h) = beforeOpened h
-beforeOpened (finished bs ∷ h) = beforeOpened h
+beforeOpened (began ∷ h) = beforeOpened h
+beforeOpened (finished t p r ∷ h) = beforeOpened h
 beforeOpened (lost ∷ h) = beforeOpened h
-beforeOpened (opened ∷ h) = h
-beforeOpened (gave a v ∷ h) = beforeOpened h
+beforeOpened (opened a ∷ h) = h
+beforeOpened (gave v ∷ h) = beforeOpened h
 beforeOpened (closed ∷ h) = beforeOpened h
+beforeOpened (changed x ∷ h) = beforeOpened h
 
 -- what the open burst shows: the last that finished before it was opened
-abbrev pub shownBy : List Happening → Reading
+abbrev pub shownBy : List Happening → Measurement
 shownBy h = lastFinished (beforeOpened h)
 
 -- ---- where a conversion is
@@ -151,12 +166,13 @@ loses gone = gone
 
 abbrev pub whereIs : List Happening → ℕ → Where
 whereIs [] k = unbegun
-whereIs (began c ∷ h) k = cond (eqb k (suc (begunIn h))) running (whereIs h k)
-whereIs (finished bs ∷ h) k = finishes (openIn h) (whereIs h k)
+whereIs (began ∷ h) k = cond (eqb k (suc (begunIn h))) running (whereIs h k)
+whereIs (finished t p r ∷ h) k = finishes (openIn h) (whereIs h k)
 whereIs (lost ∷ h) k = loses (whereIs h k)
-whereIs (opened ∷ h) k = whereIs h k
-whereIs (gave a v ∷ h) k = whereIs h k
+whereIs (opened a ∷ h) k = whereIs h k
+whereIs (gave v ∷ h) k = whereIs h k
 whereIs (closed ∷ h) k = closes (waitsIn h) (whereIs h k)
+whereIs (changed x ∷ h) k = whereIs h k
 
 abbrev pub isRunning : Where → Bool
 isRunning unbegun = false
@@ -194,20 +210,22 @@ isPresent w = isRunning w || (isWaiting w || isShown w)
 
 -- a reset or power event
 abbrev pub isLoss : Happening → Bool
-isLoss (began c) = false
-isLoss (finished bs) = false
+isLoss (began) = false
+isLoss (finished t p r) = false
 isLoss lost = true
-isLoss opened = false
-isLoss (gave a v) = false
+isLoss (opened a) = false
+isLoss (gave v) = false
 isLoss closed = false
+isLoss (changed x) = false
 
 abbrev pub isClose : Happening → Bool
-isClose (began c) = false
-isClose (finished bs) = false
+isClose (began) = false
+isClose (finished t p r) = false
 isClose lost = false
-isClose opened = false
-isClose (gave a v) = false
+isClose (opened a) = false
+isClose (gave v) = false
 isClose closed = true
+isClose (changed x) = false
 
 -- a closed burst, if it was whole (g), shows one at w
 abbrev pub delivers : Happening → Bool → Where → Bool
@@ -220,12 +238,13 @@ finds x w = isLoss x && isPresent w
 -- A later finished one takes the place of one at w: at a finish the waiting one's, and the shown one's unless a burst is open (o); at a close the shown
 -- one's if one waits (u).
 abbrev pub replaces : Happening → Bool → Bool → Where → Bool
-replaces (began c) o u w = false
-replaces (finished bs) o u w = isWaiting w || (isShown w && not o)
+replaces (began) o u w = false
+replaces (finished t p r) o u w = isWaiting w || (isShown w && not o)
 replaces lost o u w = false
-replaces opened o u w = false
-replaces (gave a v) o u w = false
+replaces (opened a) o u w = false
+replaces (gave v) o u w = false
 replaces closed o u w = isShown w && u
+replaces (changed x) o u w = false
 
 -- at some moment the test holds of what happened then, of the history before it, and of k
 abbrev pub once : (Happening → List Happening → ℕ → Bool) → List Happening → ℕ → Bool

@@ -1,51 +1,59 @@
--- What each event tells: by the event, its answer, and the device's phase, latched codes and burst. No count, no shown or waiting conversion and no mark
--- of delivery is looked at.
+-- What an event adds to the history. Of the machine nothing is looked at but what the event hands back: whether it was done, and the byte that it gave.
 use Prim.Native.Nat.{ℕ}
-use mathlib.Core.Bool.{Bool, false, cond}
+use mathlib.Core.Bool.{cond}
 use mathlib.Core.List.{List, [], _∷_, _++_}
 use lib.Dec.{eqb}
 use Rattle.paper.specs.Numbers.{done}
-use Rattle.paper.specs.Registers as reg
-use Rattle.machine.specs.declared.Burst.{Burst}
-use Rattle.machine.specs.declared.Burst.the-variants as burst
-use Rattle.machine.specs.declared.Device.{Device}
+use Rattle.machine.specs.declared.Held.{Held}
+use Rattle.machine.specs.declared.Held.the-variants as byte
 use Rattle.machine.specs.declared.Machine.{Machine}
-use Rattle.machine.specs.State.{fresh, runs}
-use Rattle.machine.specs.Data.{stored}
-use Rattle.machine.specs.Events.{byteGiven}
 use Rattle.machine.specs.declared.Event.{Event}
 use Rattle.machine.specs.declared.Event.the-variants.{Power, Copied, Write, Finish, Wake, Open, Byte, Close}
+use Rattle.machine.specs.State.{fresh}
+use Rattle.machine.specs.Events.{byteGiven}
 use Rattle.machine.specs.Event.{next, answer}
-use Rattle.ledger.specs.History.{Happening, began, finished, lost, opened, gave, closed}
+use Rattle.ledger.specs.Happening.{copied, wroteF2, wroteF5, heldF4, tookF4, Happening, began, finished, lost, opened, gave, closed, changed}
+use Rattle.ledger.specs.Device.{isConverting, beginsBy, deviceIn}
 
--- none ran, and now one runs: it began, with the codes that are latched now
-abbrev pub beginning : Bool → Device → List Happening
-beginning ran now = cond ran [] (cond (runs (now .phase)) (began (now .codes) ∷ []) [])
+-- F4 takes effect with v, and a conversion begins or none
+abbrev pub takes : List Happening → ℕ → List Happening
+takes h v = cond (beginsBy (deviceIn h .phase) v) (began ∷ changed (tookF4 v) ∷ []) (changed (tookF4 v) ∷ [])
 
--- the address that an open burst stands at
-abbrev pub addressOf : Burst → ℕ
-addressOf burst.Closed = 0
-addressOf (burst.Open first next) = next
+-- F4 is held during a conversion, and otherwise takes effect
+abbrev pub writesF4 : List Happening → ℕ → List Happening
+writesF4 h v = cond (isConverting (deviceIn h .phase)) (changed (heldF4 v) ∷ []) (takes h v)
 
--- of an event that is done, on the machine m, with the device as it is afterwards: the latest first
-abbrev pub tells : Machine → Event → Device → List Happening
-tells m Power now = lost ∷ []
-tells m Copied now = []
-tells m (Write a v) now = cond (eqb a reg.reset) (lost ∷ []) (beginning (runs (m .device .phase)) now)
-tells m (Finish t p h) now = beginning false now ++ finished (stored (m .device) t p h) ∷ []
-tells m Wake now = beginning (runs (m .device .phase)) now
-tells m (Open a) now = opened ∷ []
-tells m Byte now = gave (addressOf (m .burst)) (byteGiven m .value) ∷ []
-tells m (Close n) now = closed ∷ []
+abbrev pub writes : List Happening → ℕ → ℕ → List Happening
+writes h a v =
+    cond (eqb a 0xE0) (lost ∷ [])
+    (cond (eqb a 0xF2) (changed (wroteF2 v) ∷ [])
+    (cond (eqb a 0xF5) (changed (wroteF5 v) ∷ [])
+    (writesF4 h v)))
 
--- a refused or ignored event tells nothing
-abbrev pub told : Machine → Event → List Happening
-told m e = cond (eqb (answer m e) done) (tells m e (next m e .device)) []
+-- once a conversion has finished, a held F4 takes effect
+abbrev pub takesHeld : Held → List Happening → List Happening
+takesHeld byte.Nothing h = []
+takesHeld (byte.Byte v) h = takes h v
+
+-- of an event that is done after the history h, where a byte gave v: the latest first
+abbrev pub tells : List Happening → Event → ℕ → List Happening
+tells h Power v = lost ∷ []
+tells h Copied v = changed copied ∷ []
+tells h (Write a x) v = writes h a x
+tells h (Finish t p u) v = takesHeld (deviceIn h .held) (finished t p u ∷ h) ++ finished t p u ∷ []
+tells h Wake v = began ∷ []
+tells h (Open a) v = opened a ∷ []
+tells h Byte v = gave v ∷ []
+tells h (Close n) v = closed ∷ []
+
+-- a refused or ignored event, whose number n is not done, tells nothing
+abbrev pub told : ℕ → List Happening → Event → ℕ → List Happening
+told n h e v = cond (eqb n done) (tells h e v) []
 
 -- after a sequence of events, the first one first
 abbrev pub toldAfter : Machine → List Happening → List Event → List Happening
 toldAfter m h [] = h
-toldAfter m h (e ∷ es) = toldAfter (next m e) (told m e ++ h) es
+toldAfter m h (e ∷ es) = toldAfter (next m e) (told (answer m e) h e (byteGiven m .value) ++ h) es
 
 abbrev pub history : List Event → List Happening
 history es = toldAfter fresh [] es

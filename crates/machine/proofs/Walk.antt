@@ -55,6 +55,27 @@ pub data Refuses (m : Machine) : Event → ℕ → Type 0 where
   close-without-burst : (n : ℕ) → isOpen (m .burst) ≡ false → Refuses m (Close n) wrongPhase
   close-wrong-length : (n : ℕ) → isOpen (m .burst) ≡ true → eqb n reg.dataLength ≡ false → Refuses m (Close n) wrongLength
 
+pub refuses-not-done : {m : Machine} {e : Event} {n : ℕ} → Refuses m e n → eqb n done ≡ false
+refuses-not-done (not-copying c) = refl
+refuses-not-done (write-in-burst a v o) = refl
+refuses-not-done (write-elsewhere a v o w) = refl
+refuses-not-done (reset-otherwise v o e) = refl
+refuses-not-done (write-copying a v o w r c) = refl
+refuses-not-done (f5-awake v c s) = refl
+refuses-not-done (f4-held v c u q) = refl
+refuses-not-done (f4-barred v c i b) = refl
+refuses-not-done (finish-early t p h u) = refl
+refuses-not-done (finish-too-large t p h u r) = refl
+refuses-not-done (finish-barred t p h u r b) = refl
+refuses-not-done (wake-elsewhere y) = refl
+refuses-not-done (wake-barred y b) = refl
+refuses-not-done (open-in-burst a o) = refl
+refuses-not-done (open-elsewhere a o r) = refl
+refuses-not-done (byte-without-burst o) = refl
+refuses-not-done (byte-past-last f a e l) = refl
+refuses-not-done (close-without-burst n o) = refl
+refuses-not-done (close-wrong-length n o l) = refl
+
 -- of the machine before, the event, the number handed back, and the machine after
 pub record Steps (P : Machine → Event → ℕ → Machine → Type 0) : Type 0 where
   pub refuses : (m : Machine) (e : Event) (n : ℕ) → Refuses m e n → P m e n m

@@ -1,0 +1,94 @@
+-- What each event hands back after a history: the number, by the paper's checks in their order, and the register that a byte gives.
+use Prim.Native.Nat.{ℕ, _+_, _-_, _*_}
+use mathlib.Core.Bool.{Bool, true, false, not, cond, _&&_, _||_}
+use mathlib.Core.List.{List, [], _∷_}
+use lib.Dec.{eqb, leb, ltb}
+use lib.ListN.{getD, length}
+use Rattle.paper.specs.Numbers.{done, ignored, wrongLength, burstIsOpen, addressNotAllowed, stillCopying, wrongPhase, outOfRange, allBegun}
+use Rattle.paper.specs.Registers as reg
+use Rattle.machine.specs.declared.Phase.{Phase}
+use Rattle.machine.specs.declared.Held.{Held}
+use Rattle.machine.specs.declared.Held.the-variants as byte
+use Rattle.machine.specs.declared.Event.{Event}
+use Rattle.machine.specs.declared.Event.the-variants.{Power, Copied, Write, Finish, Wake, Open, Byte, Close}
+use Rattle.ledger.specs.Happening.{Happening}
+use Rattle.ledger.specs.Device.{isSleep, isConverting, isStandby, beginsBy, finishes, deviceIn}
+use Rattle.ledger.specs.History.{begunIn, openIn, openedAt, givenIn, shownBy, bit}
+
+-- ---- the number
+
+-- the first check that fails decides; each has the number for its failing
+abbrev pub firstOf : List (Bool × ℕ) → ℕ
+firstOf [] = done
+firstOf (x ∷ l) = cond (x .0) (x .1) (firstOf l)
+
+abbrev pub phaseIn : List Happening → Phase
+phaseIn h = deviceIn h .phase
+
+-- as many as can be numbered have begun
+abbrev pub allBegunIn : List Happening → Bool
+allBegunIn h = eqb (begunIn h) 4294967295
+
+abbrev pub holds : Held → Bool
+holds byte.Nothing = false
+holds (byte.Byte v) = true
+
+-- what is held begins a conversion in the phase p
+abbrev pub heldBegins : Held → Phase → Bool
+heldBegins byte.Nothing p = false
+heldBegins (byte.Byte v) p = beginsBy p v
+
+-- E0 takes B6 alone, F5 is taken in sleep alone, and F4 is held during a conversion if none is held
+abbrev pub ignoresWrite : List Happening → ℕ → ℕ → Bool
+ignoresWrite h a v =
+    (eqb a 0xE0 && not (eqb v 0xB6))
+    || ((eqb a 0xF5 && not (isSleep (phaseIn h)))
+    || (eqb a 0xF4 && (isConverting (phaseIn h) && holds (deviceIn h .held))))
+
+-- F4 takes effect unless a conversion is running
+abbrev pub beginsWrite : List Happening → ℕ → ℕ → Bool
+beginsWrite h a v = eqb a 0xF4 && (not (isConverting (phaseIn h)) && beginsBy (phaseIn h) v)
+
+-- the address that the open burst gives next: the one that was asked for, and one more for each byte given since
+abbrev pub addressIn : List Happening → ℕ
+addressIn h = openedAt h + length (givenIn h)
+
+abbrev pub numberIn : List Happening → Event → ℕ
+numberIn h Power = done
+numberIn h Copied = firstOf ((not (deviceIn h .copying), wrongPhase) ∷ [])
+numberIn h (Write a v) =
+    firstOf (
+    (openIn h, burstIsOpen)
+    ∷ (not (eqb a 0xF2 || (eqb a 0xF4 || (eqb a 0xF5 || eqb a 0xE0))), addressNotAllowed)
+    ∷ (not (eqb a 0xE0) && deviceIn h .copying, stillCopying)
+    ∷ (beginsWrite h a v && allBegunIn h, allBegun)
+    ∷ (ignoresWrite h a v, ignored) ∷ [])
+numberIn h (Finish t p u) =
+    firstOf (
+    (not (isConverting (phaseIn h)), wrongPhase)
+    ∷ (not (ltb t 0x100000 && (ltb p 0x100000 && ltb u 0x10000)), outOfRange)
+    ∷ (heldBegins (deviceIn h .held) (finishes (deviceIn h) .phase) && allBegunIn h, allBegun) ∷ [])
+numberIn h Wake = firstOf ((not (isStandby (phaseIn h)), wrongPhase) ∷ (allBegunIn h, allBegun) ∷ [])
+numberIn h (Open a) = firstOf ((openIn h, burstIsOpen) ∷ (not (leb 0x80 a && leb a 0xFF), addressNotAllowed) ∷ [])
+numberIn h Byte = firstOf ((not (openIn h), wrongPhase) ∷ (ltb 0xFF (addressIn h), addressNotAllowed) ∷ [])
+numberIn h (Close n) = firstOf ((not (openIn h), wrongPhase) ∷ (not (eqb n 8), wrongLength) ∷ [])
+
+-- ---- the register
+
+-- bit 3 running, bit 0 copying
+abbrev pub statusIn : List Happening → ℕ
+statusIn h = 8 * bit (isConverting (phaseIn h)) + bit (deviceIn h .copying)
+
+-- the data byte at the address a, from F7 to FE, of the conversion that the burst shows
+abbrev pub dataIn : List Happening → ℕ → ℕ
+dataIn h a = getD (shownBy h .bytes) (a - 0xF7) 0
+
+-- every address but these, the data and the control registers gives 0
+abbrev pub registerIn : List Happening → ℕ → ℕ
+registerIn h a =
+    cond (eqb a 0xD0) 0x60
+    (cond (eqb a 0xF2) (deviceIn h .f2)
+    (cond (eqb a 0xF3) (statusIn h)
+    (cond (eqb a 0xF4) (deviceIn h .f4)
+    (cond (eqb a 0xF5) (deviceIn h .f5)
+    (cond (leb 0xF7 a && leb a 0xFE) (dataIn h a) 0)))))
