@@ -155,7 +155,7 @@ module _ (es : List Event) where
       }
 
 -- and no state is without a way on: after power and the end of copying a write begins the next
-after-append : (m : Machine) (es fs : List Event) → after m (es ++ fs) ≡ after (after m es) fs
+pub after-append : (m : Machine) (es fs : List Event) → after m (es ++ fs) ≡ after (after m es) fs
 after-append m [] fs = refl
 after-append m (e ∷ es) fs = after-append (next m e) es fs
 

@@ -18,4 +18,5 @@ pub mod Turn
 pub mod Alive
 pub mod Held
 pub mod Turns
+pub mod Fresh
 pub mod Bench

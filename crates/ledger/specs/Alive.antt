@@ -1,6 +1,6 @@
 -- A dead machine does not pass, though the sum alone would let it: whatever came before, the next conversion begins, finishes with its own bytes, is shown
 -- under its own number, and is counted, in forced mode and in normal mode, for any codes and counts (proofs/Alive.antt, proofs/Held.antt, proofs/Turns.antt).
-use Prim.Native.Nat.{ℕ, _+_, _%_, _<_}
+use Prim.Native.Nat.{ℕ, zero, suc, _+_, _%_, _<_}
 use mathlib.Core.Path.{_≡_}
 use mathlib.Core.Bool.{true, false}
 use mathlib.Core.List.{List, [], _∷_, _++_}
@@ -14,12 +14,15 @@ use Rattle.machine.specs.declared.Codes.{Codes}
 use Rattle.machine.specs.declared.Closing.{Closing}
 use Rattle.machine.specs.declared.Ledger.{Ledger}
 use Rattle.machine.specs.declared.Machine.{Machine}
+use Rattle.machine.specs.State.{fresh, freshAfter}
 use Rattle.machine.specs.Events.{closed}
 use Rattle.machine.specs.declared.Event.{Event}
-use Rattle.machine.specs.declared.Event.the-variants.{Write, Finish, Wake, Open, Byte, Close}
+use Rattle.machine.specs.declared.Event.the-variants.{Power, Copied, Write, Finish, Wake, Open, Byte, Close}
 use Rattle.machine.specs.Event.{after}
 use Rattle.ledger.specs.Device.{isConverting, codesBy}
 use Rattle.ledger.specs.Bytes.{dataBytes}
+use Rattle.ledger.specs.History.{begunIn}
+use Rattle.ledger.specs.Told.{history}
 
 -- one turn: the bytes for F2 and F4, the three counts, and the bytes lent to the close
 pub record Turn : Type 0 where
@@ -200,3 +203,23 @@ pub record NormalTurnsRunTruly (m : Machine) (n : ℕ) (c : Codes) : Type 0 wher
   pub tally-is : m .ledger ≡ allDelivered n
   pub next-is : (t : Turn) → Fits t → n < 4294967295 → let x = closed (after m (byWake ++ measured t)) (t .lent) in
       Delivers (n + 1) (n + 1) c t (x .0) (x .1)
+
+-- ---- a fresh state after n conversions that were all delivered
+
+-- a turn in forced mode with every channel skipped, n times
+abbrev pub plainTurn : Turn
+plainTurn = record { f2 = 0; f4 = 1; temperature = 0; pressure = 0; humidity = 0; lent = 0 ∷ 0 ∷ 0 ∷ 0 ∷ 0 ∷ 0 ∷ 0 ∷ 0 ∷ [] }
+
+abbrev pub plainTurns : ℕ → List Turn
+plainTurns zero = []
+plainTurns (suc n) = plainTurn ∷ plainTurns n
+
+-- n conversions are read, and a power event leaves all else fresh
+abbrev pub leadingTo : ℕ → List Event
+leadingTo n = Copied ∷ forcedTurns (plainTurns n) ++ Power ∷ []
+
+-- Events from that state are events from the fresh state after others that came first. So each statement on lists of events holds from there too, of that longer
+-- list, and numbers go on from n.
+pub record GoesOnFrom (n : ℕ) (es : List Event) : Type 0 where
+  pub machine-is : after (freshAfter n) es ≡ after fresh (leadingTo n ++ es)
+  pub begun-is : begunIn (history (leadingTo n)) ≡ n
