@@ -7,13 +7,13 @@ use lib.ListN.{length}
 use lib.IntN.{ℤ, pos, negsuc, natAbs}
 use Rattle.bench_page.specs.Page.{letters}
 
-abbrev pub last : ℕ → List ℕ
-last n = (48 + n % 10) ∷ []
+abbrev pub lastDigit : ℕ → ℕ
+lastDigit n = 48 + n % 10
 
 -- the last digit, and before it as many of so many more as the number has
 unfoldable pub spelled : ℕ → ℕ → List ℕ
-spelled zero n = last n
-spelled (suc more) n = cond (ltb n 10) (last n) (spelled more (n / 10) ++ last n)
+spelled zero n = lastDigit n ∷ []
+spelled (suc more) n = cond (ltb n 10) (lastDigit n ∷ []) (spelled more (n / 10) ++ lastDigit n ∷ [])
 
 -- twenty digits hold every number of 64 bits
 unfoldable pub decimal : ℕ → List ℕ

@@ -31,22 +31,33 @@ pub fn write_text(text: &[u8], out: &mut [u8], at: usize) -> usize
     next
 }
 
-// Writes a number in decimal.
+// Writes a number in decimal: its last digit, and before it the digits of a tenth of it where that has any.
 pub fn write_decimal(n: u64, out: &mut [u8], at: usize) -> usize
     ensures { λ r. ⌜ (now (out .exit), r) ≡ (now (out .entry), at) ▹ spelt.decimal n ⌝ }
 {
-    digits::spell(n, digits::MORE_DIGITS, out, at)
+    if n < 10 {
+        return write_byte(digits::last_digit(n), out, at);
+    }
+    let next = write_decimal(n / 10, out, at);
+    write_byte(digits::last_digit(n), out, next)
 }
 
 // Writes a signed number in decimal, with a minus where it is negative.
 pub fn write_signed(z: i32, out: &mut [u8], at: usize) -> usize
     ensures { λ r. ⌜ (now (out .exit), r) ≡ (now (out .entry), at) ▹ spelt.signed z ⌝ }
 {
+    let next = write_sign(z, out, at);
+    write_decimal(digits::magnitude(digits::widen(z)), out, next)
+}
+
+// Writes the minus of a negative number, and nothing for any other.
+fn write_sign(z: i32, out: &mut [u8], at: usize) -> usize
+    ensures { λ r. ⌜ (now (out .exit), r) ≡ (now (out .entry), at) ▹ spelt.sign z ⌝ }
+{
     if z < 0 {
-        let next = write_byte(b'-', out, at);
-        return write_decimal(digits::magnitude(digits::widen(z)), out, next);
+        return write_byte(b'-', out, at);
     }
-    write_decimal(digits::magnitude(digits::widen(z)), out, at)
+    at
 }
 
 // Writes a byte as two hex digits, in upper case.

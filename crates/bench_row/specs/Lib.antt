@@ -1,0 +1,2 @@
+-- Rows as text.
+pub mod Row
