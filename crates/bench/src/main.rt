@@ -1,16 +1,22 @@
 // The bench: reads commands from standard input, one a line, and writes their answers to standard output.
 ghost use Prim.Native.Nat.{_≤_};
-ghost use lib.ListN.{length};
 use bench_numbers::front;
+use libc::STDERR_FILENO;
 use libc::STDIN_FILENO;
 use libc::STDOUT_FILENO;
 use machine::Machine;
 
-// What is kept from block to block: the machine, how many bytes of a line are held, and how many of the page are written.
+// The page of answers: how many of its bytes are filled, and whether all before them were written out.
+struct Page {
+    at: usize,
+    written: bool,
+}
+
+// What is kept from line to line: the machine, how many bytes of a line are held, and the page.
 struct Bench {
     machine: Machine,
     held: usize,
-    at: usize,
+    page: Page,
 }
 
 // One byte more than the longest line is held, so that a longer line is seen to be too long.
@@ -19,34 +25,37 @@ const HELD: usize = 4097;
 // The page of 65,536 bytes is written out from here on, which leaves room for the longest answer.
 const FULL: usize = 60000;
 
-// Writes the page out once it is nearly full, and gives the place of the next answer.
-fn make_room(out: &[u8], at: usize) -> usize {
-    if at < FULL {
-        return at;
+// Writes the page out, and begins it anew.
+// Once a write has failed nothing more is written, so that no answer is missing between two others.
+fn write_out(page: Page, out: &[u8]) -> Page {
+    let mut written = false;
+    if page.written {
+        written = io::write_all(STDOUT_FILENO, front(out, page.at));
     }
-    io::write_all(STDOUT_FILENO, front(out, at));
-    0
+    Page { at: 0, written }
+}
+
+// Gives a page that has room for an answer: it is written out where it is nearly full.
+fn make_room(page: Page, out: &[u8]) -> Page {
+    if page.at < FULL {
+        return page;
+    }
+    write_out(page, out)
 }
 
 // Answers a line, after which none is held.
 fn answer_line(kept: Bench, line: &[u8], out: &mut [u8]) -> Bench {
-    let machine = kept.machine;
-    let done = bench_answer::answer(line, machine, out, kept.at);
-    let next = done.machine;
-    Bench {
-        machine: next,
-        held: 0,
-        at: make_room(out, done.at),
-    }
-}
-
-// Holds a piece of a line, after what is held of it.
-fn hold(kept: Bench, piece: &[u8], line: &mut [u8]) -> Bench {
-    let machine = kept.machine;
+    let room = make_room(kept.page, out);
+    let done = bench_answer::answer(line, kept.machine, out, room.at);
+    let machine = done.machine;
+    let page = Page {
+        at: done.at,
+        written: room.written,
+    };
     Bench {
         machine,
-        held: bench_page::write_text(piece, line, kept.held),
-        at: kept.at,
+        held: 0,
+        page,
     }
 }
 
@@ -55,14 +64,22 @@ fn end_line(kept: Bench, piece: &[u8], line: &mut [u8], out: &mut [u8]) -> Bench
     if kept.held == 0 {
         return answer_line(kept, piece, out);
     }
-    let whole = hold(kept, piece, line);
-    answer_line(whole, front(line, whole.held), out)
+    let held = bench_page::write_text(piece, line, kept.held);
+    answer_line(kept, front(line, held), out)
 }
 
-// The place of the first newline from a place on, or the block's end.
+// All bytes but the first n, or none where there are no more.
+fn rest(bytes: &[u8], n: usize) -> &[u8] {
+    if n <= bytes.len() {
+        &bytes[n..]
+    } else {
+        &bytes[..0]
+    }
+}
+
+// The place of the first newline from a place on, or where there is none the block's end.
 fn newline(block: &[u8], from: usize) -> usize
-    requires { ⌜ from ≤ length (now block) ⌝ }
-    ensures { λ r. ⌜ (from ≤ r) × (r ≤ length (now (block .entry))) ⌝ }
+    ensures { λ r. ⌜ from ≤ r ⌝ }
 {
     let mut i = from;
     while i < block.len() {
@@ -74,39 +91,54 @@ fn newline(block: &[u8], from: usize) -> usize
     i
 }
 
-// Takes a block: the lines that end in it are answered, and what stands after them is held.
+// Answers the lines that end in a block, and holds what stands after them.
 fn answer_block(first: Bench, block: &[u8], line: &mut [u8], out: &mut [u8]) -> Bench {
     let mut kept = first;
     let mut start = 0;
     let mut end = newline(block, 0);
     while end < block.len() {
-        kept = end_line(kept, &block[start..end], line, out);
+        let from = start;
         start = end + 1;
+        kept = end_line(kept, rest(front(block, end), from), line, out);
         end = newline(block, start);
     }
-    hold(kept, &block[start..], line)
+    kept.held = bench_page::write_text(rest(block, start), line, kept.held);
+    kept
 }
 
-// What is left after a read: whether there may be more, and what is kept.
+// What is left after a read: whether to read on, and what is kept.
 struct Turn {
     more: bool,
     kept: Bench,
 }
-// Reads one block and answers its lines.
+
+// Reads one block, answers its lines and writes the answers out.
 fn take_block(kept: Bench, line: &mut [u8], out: &mut [u8]) -> Turn {
     let mut block = io::large_buffer();
     let got = libc::read(STDIN_FILENO, &mut block);
+    if got < 0 {
+        io::write_all(STDERR_FILENO, b"bench: the input could not be read\n");
+    }
     if got <= 0 {
         return Turn { more: false, kept };
     }
     let n = io::count(got, &block);
+    let answered = answer_block(kept, &block[..n], line, out);
+    let machine = answered.machine;
+    let page = write_out(answered.page, out);
+    let next = Bench {
+        machine,
+        held: answered.held,
+        page,
+    };
     Turn {
-        more: true,
-        kept: answer_block(kept, &block[..n], line, out),
+        more: page.written,
+        kept: next,
     }
 }
 
-// Reads to the end of the input. A proved loop has to end, so the blocks are counted down from a number that no run uses up.
+// Reads to the end of the input, or until a write fails.
+// A proved loop has to end, so the blocks are counted down from a number that no run uses up.
 fn take_blocks(first: Bench, line: &mut [u8], out: &mut [u8]) -> Bench {
     let mut kept = first;
     let mut turns = u64::MAX;
@@ -122,19 +154,28 @@ fn take_blocks(first: Bench, line: &mut [u8], out: &mut [u8]) -> Bench {
     kept
 }
 
-// Answers a last line that lacks its newline, and writes out what is left of the page.
+// Answers a last line that lacks its newline, and writes the answer out.
+// If a write failed, now or before, standard error says so.
 fn finish(kept: Bench, line: &[u8], out: &mut [u8]) {
-    let last = answer_line(kept, front(line, kept.held), out);
-    io::write_all(STDOUT_FILENO, front(out, last.at));
+    let answered = answer_line(kept, front(line, kept.held), out);
+    let last = write_out(answered.page, out);
+    if !last.written {
+        io::write_all(STDERR_FILENO, b"bench: the answers could not be written\n");
+    }
 }
 
 fn main() {
     let mut line = [0u8; HELD];
     let mut out = io::large_buffer();
-    let first = Bench {
-        machine: machine_start::fresh(),
-        held: 0,
+    let machine = machine_start::fresh();
+    let page = Page {
         at: 0,
+        written: true,
+    };
+    let first = Bench {
+        machine,
+        held: 0,
+        page,
     };
     let last = take_blocks(first, &mut line, &mut out);
     finish(last, &line, &mut out);

@@ -1,4 +1,4 @@
--- The place stays within the block.
+-- The place stays at or past where it began.
 use Prim.Native.Nat.{_-_, _≤_}
 use native.Mathlib.Omega.{arith}
 use lib.ListN.{length}
@@ -6,7 +6,7 @@ use Rattle.bench.proofs.newline.Statement.{statement}
 use Rattle.bench.proofs.newline.Tie as tie
 
 abbrev Inv-loop : tie.InvT-loop
-Inv-loop block from i₀ i = (from ≤ i) × (i ≤ length block)
+Inv-loop block from i₀ i = from ≤ i
 
 abbrev μ-loop : tie.MeasureT-loop
 μ-loop block from i₀ i = length block - i
