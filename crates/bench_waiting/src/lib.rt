@@ -7,6 +7,7 @@ use bench_arguments::Three;
 use bench_arguments::Two;
 use bench_command::Time;
 use bench_numbers::front;
+use waiting::Estimate;
 use waiting::Polled;
 use waiting::Wait;
 
@@ -27,7 +28,8 @@ fn wait_at_most(codes: Three, out: &mut [u8], at: usize) -> usize
 {
     match codes {
         Three::Values(t, p, h) => tell_wait(
-            waiting::maximum_wait(
+            waiting::estimate_wait(
+                Estimate::Maximum,
                 bench_amounts::code(t),
                 bench_amounts::code(p),
                 bench_amounts::code(h),
@@ -45,7 +47,8 @@ fn wait_typically(codes: Three, out: &mut [u8], at: usize) -> usize
 {
     match codes {
         Three::Values(t, p, h) => tell_wait(
-            waiting::typical_wait(
+            waiting::estimate_wait(
+                Estimate::Typical,
                 bench_amounts::code(t),
                 bench_amounts::code(p),
                 bench_amounts::code(h),

@@ -17,6 +17,7 @@ use bus::Bus;
 use bus::Device;
 use onegrish_handing::messages;
 use onegrish_handing::times;
+use waiting::Estimate;
 
 // The 18 words T1 to T3, P1 to P9, H1 to H6 of the two calibration blocks, at the front of `words`.
 // 2 for blocks that are not 26 and 7 bytes long, then 9 for fewer than 18 places.
@@ -56,7 +57,10 @@ pub extern "C" fn onegrish_compensate(
 pub extern "C" fn onegrish_maximum_wait(t: u8, p: u8, h: u8, microseconds: &mut u32) -> u8
     ensures { λ r. ⌜ (r, now (microseconds .exit)) ≡ numberInto (waited maximum t p h) (now (microseconds .entry)) ⌝ }
 {
-    times::hand_wait(waiting::maximum_wait(t, p, h), microseconds)
+    times::hand_wait(
+        waiting::estimate_wait(Estimate::Maximum, t, p, h),
+        microseconds,
+    )
 }
 
 // The microseconds that a conversion typically takes.
@@ -65,7 +69,10 @@ pub extern "C" fn onegrish_maximum_wait(t: u8, p: u8, h: u8, microseconds: &mut 
 pub extern "C" fn onegrish_typical_wait(t: u8, p: u8, h: u8, microseconds: &mut u32) -> u8
     ensures { λ r. ⌜ (r, now (microseconds .exit)) ≡ numberInto (waited typical t p h) (now (microseconds .entry)) ⌝ }
 {
-    times::hand_wait(waiting::typical_wait(t, p, h), microseconds)
+    times::hand_wait(
+        waiting::estimate_wait(Estimate::Typical, t, p, h),
+        microseconds,
+    )
 }
 
 // The place of the first ready status byte.

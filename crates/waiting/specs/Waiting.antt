@@ -2,19 +2,23 @@
 use Prim.Native.Nat.{ℕ, _+_, _*_}
 use lib.Dec.{eqb}
 use mathlib.Core.Bool.{cond}
-use mathlib.Core.List.{[], _∷_}
+use mathlib.Core.List.{List, [], _∷_}
+use lib.ListN.{getD}
 use Rattle.paper.specs.Numbers as no
 use Rattle.paper.specs.Registers as reg
 use Rattle.paper.specs.Answers.{Answer, given, refused}
+use Rattle.waiting.specs.declared.Estimate.{Estimate}
+use Rattle.waiting.specs.declared.Estimate.the-variants.{Maximum, Typical}
 use Rattle.waiting.specs.declared.Figures.{Figures}
 use Rattle.waiting.specs.declared.Wait.{Wait}
 use Rattle.waiting.specs.declared.Wait.the-variants.{Microseconds, Refused}
 
 -- codes 0 to 4 mean 0, 1, 2, 4, 8 samples; 5 to 7 mean 16
+abbrev pub samplesByCode : List ℕ
+samplesByCode = 0 ∷ 1 ∷ 2 ∷ 4 ∷ 8 ∷ 16 ∷ 16 ∷ 16 ∷ []
+
 unfoldable pub samples : ℕ → ℕ
-samples code =
-    cond (eqb code 0) 0
-    (cond (eqb code 1) 1 (cond (eqb code 2) 2 (cond (eqb code 3) 4 (cond (eqb code 4) 8 16))))
+samples code = getD samplesByCode code 0
 
 -- the base, each sample, and what pressure or humidity takes more if it has any
 abbrev pub maximum : Figures
@@ -23,22 +27,26 @@ maximum = record { base = 1250; sample = 2300; extra = 575 }
 abbrev pub typical : Figures
 typical = record { base = 1000; sample = 2000; extra = 500 }
 
+abbrev pub figures : Estimate → Figures
+figures Maximum = maximum
+figures Typical = typical
+
 -- a channel's part, and nothing for a skipped one
 unfoldable pub channelPart : ℕ → ℕ → ℕ → ℕ
 channelPart sample extra code = cond (eqb (samples code) 0) 0 (samples code * sample + extra)
 
 -- temperature has nothing extra
 unfoldable pub microseconds : Figures → ℕ → ℕ → ℕ → ℕ
-microseconds figures temperature pressure humidity =
-    figures .base
-    + channelPart (figures .sample) 0 temperature
-    + channelPart (figures .sample) (figures .extra) pressure
-    + channelPart (figures .sample) (figures .extra) humidity
+microseconds f temperature pressure humidity =
+    f .base
+    + channelPart (f .sample) 0 temperature
+    + channelPart (f .sample) (f .extra) pressure
+    + channelPart (f .sample) (f .extra) humidity
 
 -- a code above 7 gives 7
 unfoldable pub waited : Figures → ℕ → ℕ → ℕ → Answer
-waited figures temperature pressure humidity =
-    cond (reg.areCodes temperature pressure humidity) (given (microseconds figures temperature pressure humidity ∷ []))
+waited f temperature pressure humidity =
+    cond (reg.areCodes temperature pressure humidity) (given (microseconds f temperature pressure humidity ∷ []))
     (refused no.outOfRange)
 
 -- the paper's number and values for each case of the enum

@@ -1,10 +1,16 @@
 // Waiting for a conversion: how long it takes, and polling its status.
 ghost use mathlib.Core.Path.{_≡_};
-ghost use Rattle.waiting.specs.Waiting.{maximum, typical, waited, waitAnswer};
+ghost use Rattle.waiting.specs.Waiting.{figures, waited, waitAnswer};
 ghost use Rattle.waiting.specs.Polling.{polled, pollAnswer};
 
 mod conversion;
 mod status;
+
+// Which time is asked for: the longest that a conversion can take, or the usual one.
+pub enum Estimate {
+    Maximum,
+    Typical,
+}
 
 // Microseconds: a conversion's base, each sample, and what pressure or humidity takes more if it has any.
 pub struct Figures {
@@ -12,18 +18,6 @@ pub struct Figures {
     pub sample: u32,
     pub extra: u32,
 }
-
-const MAXIMUM: Figures = Figures {
-    base: 1250,
-    sample: 2300,
-    extra: 575,
-};
-
-const TYPICAL: Figures = Figures {
-    base: 1000,
-    sample: 2000,
-    extra: 500,
-};
 
 // How long a conversion takes, or the number that says why there is no answer.
 pub enum Wait {
@@ -37,20 +31,16 @@ pub enum Polled {
     Never { polls: usize },
 }
 
-// The microseconds that a conversion with these oversampling codes takes at most.
+// The microseconds that a conversion with these oversampling codes takes, at most or typically.
 // A code above 7 gives 7.
-pub fn maximum_wait(temperature: u8, pressure: u8, humidity: u8) -> Wait
-    ensures { λ r. ⌜ waitAnswer r ≡ waited maximum temperature pressure humidity ⌝ }
+pub fn estimate_wait(estimate: Estimate, temperature: u8, pressure: u8, humidity: u8) -> Wait
+    ensures { λ r. ⌜ waitAnswer r ≡ waited (figures estimate) temperature pressure humidity ⌝ }
 {
-    conversion::wait(MAXIMUM, temperature, pressure, humidity)
-}
-
-// The microseconds that a conversion with these oversampling codes typically takes.
-// A code above 7 gives 7.
-pub fn typical_wait(temperature: u8, pressure: u8, humidity: u8) -> Wait
-    ensures { λ r. ⌜ waitAnswer r ≡ waited typical temperature pressure humidity ⌝ }
-{
-    conversion::wait(TYPICAL, temperature, pressure, humidity)
+    if !paper::are_codes(temperature, pressure, humidity) {
+        return Wait::Refused(paper::OUT_OF_RANGE);
+    }
+    let figures = conversion::figures_of(estimate);
+    Wait::Microseconds(conversion::microseconds(figures, temperature, pressure, humidity))
 }
 
 // The place of the first ready status byte and the polls made, place plus one.

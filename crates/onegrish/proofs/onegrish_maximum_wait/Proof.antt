@@ -4,7 +4,7 @@ use Rattle.onegrish.proofs.onegrish_maximum_wait.Statement.{statement}
 use Rattle.onegrish.proofs.onegrish_maximum_wait.Tie as tie
 
 returns : tie.Need-returns
-returns c = rw (← c .before .before .maximum-wait .ensures) (c .hand-wait .ensures)
+returns c = rw (← c .before .before .estimate-wait .ensures) (c .hand-wait .ensures)
 
 pub onegrish-maximum-wait-spec : {M : Type 1} → statement M
 onegrish-maximum-wait-spec = tie.close (tie.spec (λ c κs. search needs) (λ c κs. search needs) returns)
