@@ -16,11 +16,9 @@ use Rattle.bench_arguments.specs.declared.Three.{Three}
 use Rattle.bench_arguments.specs.declared.Three.the-variants as three
 use Rattle.bench_arguments.specs.Arguments.{both}
 use Rattle.paper.specs.Numbers.{done}
-use Rattle.machine.specs.declared.Closing.{Closing}
-use Rattle.machine.specs.declared.Codes.{Codes}
-use Rattle.machine.specs.declared.Given.{Given}
-use Rattle.machine.specs.declared.Machine.{Machine}
 use Rattle.machine.specs.declared.Outcome.{Outcome}
+use Rattle.machine.specs.declared.Codes.{Codes}
+use Rattle.machine.specs.declared.Machine.{Machine}
 use Rattle.machine.specs.declared.Tally.{Tally}
 use Rattle.machine.specs.Counts as counts
 use Rattle.machine.specs.Events as ev
@@ -61,7 +59,7 @@ opening (number.Value n) m p = outcomeTold (ev.opened m (octet n)) p
 
 -- ---- byte: `0 XX`
 
-unfoldable pub givenTold : Given → Page → Machine × Page
+unfoldable pub givenTold : Outcome → Page → Machine × Page
 givenTold g p = (
   g .machine,
   cond (eqb (g .answer) done) (p ▹ decimal (g .answer) ▹ letters " " ▹ pair (g .value)) (p ▹ decimal (g .answer)),
@@ -81,14 +79,14 @@ codesTold c p =
     p ▹ letters " codes=" ▹ decimal (c .temperature) ▹ letters "," ▹ decimal (c .pressure) ▹ letters ","
     ▹ decimal (c .humidity)
 
-unfoldable pub closingTold : Closing → Page → Page
+unfoldable pub closingTold : Outcome → Page → Page
 closingTold c p =
     cond (eqb (c .answer) done)
     (codesTold (c .codes) (wholeTold (c .whole) (p ▹ decimal (c .answer)) ▹ letters " n=" ▹ decimal (c .number))
     ▹ letters " before=" ▹ bit (c .delivered))
     (p ▹ decimal (c .answer))
 
-unfoldable pub closedTold : Closing × List ℕ → Page → Machine × Page
+unfoldable pub closedTold : Outcome × List ℕ → Page → Machine × Page
 closedTold c p = (c .0 .machine, buffered (c .1) (closingTold (c .0) p))
 
 unfoldable pub closeInto : Machine → List ℕ → Page → Machine × Page

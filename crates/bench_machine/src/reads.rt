@@ -4,10 +4,9 @@ ghost use Rattle.bench_machine.specs.Happenings as happenings;
 use crate::Answered;
 use crate::stay;
 use bench_numbers::Number;
-use machine::Closing;
 use machine::Codes;
-use machine::Given;
 use machine::Machine;
+use machine::Outcome;
 
 // byte
 pub fn byte(m: Machine, out: &mut [u8], at: usize) -> Answered
@@ -17,7 +16,7 @@ pub fn byte(m: Machine, out: &mut [u8], at: usize) -> Answered
 }
 
 // Writes the number, and where it is done the register's value.
-fn tell_given(given: Given, out: &mut [u8], at: usize) -> Answered
+fn tell_given(given: Outcome, out: &mut [u8], at: usize) -> Answered
     ensures { λ r. ⌜ (r .machine, (now (out .exit), r .at)) ≡ happenings.givenTold given (now (out .entry), at) ⌝ }
 {
     let machine = given.machine;
@@ -64,7 +63,7 @@ fn close_into(m: Machine, lent: &mut [u8], out: &mut [u8], at: usize) -> Answere
 }
 
 // Writes the number, and where it is done what the burst showed.
-fn tell_closing(closing: Closing, out: &mut [u8], at: usize) -> usize
+fn tell_closing(closing: Outcome, out: &mut [u8], at: usize) -> usize
     ensures { λ r. ⌜ (now (out .exit), r) ≡ happenings.closingTold closing (now (out .entry), at) ⌝ }
 {
     let next = bench_phrases::number(closing.answer, out, at);

@@ -12,7 +12,7 @@ use Rattle.machine.specs.declared.Burst.the-variants.{Closed}
 use Rattle.machine.specs.declared.Codes.{Codes}
 use Rattle.machine.specs.declared.Device.{Device}
 use Rattle.machine.specs.declared.Ledger.{Ledger}
-use Rattle.machine.specs.declared.Closing.{Closing}
+use Rattle.machine.specs.declared.Outcome.{Outcome}
 use Rattle.machine.specs.declared.Machine.{Machine}
 use Rattle.machine.specs.Fields.{withDevice, withBurst}
 use Rattle.machine.specs.State.{fresh, noConversion, runs, isOpen, isThere, isUnread}
@@ -66,7 +66,7 @@ unfolding showing
 delivers m t f u n b w some space =
     let l = ledger-after m t w some in
     let o = one-more (isUnread (m .shown)) (m .ledger) space in
-    subst (λ (x : Closing × List ℕ). Delivers (m .ledger .begun) (m .ledger .delivered + 1) (m .device .codes) t (x .0) (x .1)) (sym (closes m t f u n b)) (record {
+    subst (λ (x : Outcome × List ℕ). Delivers (m .ledger .begun) (m .ledger .delivered + 1) (m .device .codes) t (x .0) (x .1)) (sym (closes m t f u n b)) (record {
       answer-is = refl;
       whole-is = refl;
       number-is = refl;

@@ -20,6 +20,7 @@ use Rattle.machine.specs.declared.Conversion.{Conversion}
 use Rattle.machine.specs.declared.Device.{Device}
 use Rattle.machine.specs.declared.Ledger.{Ledger}
 use Rattle.machine.specs.declared.Machine.{Machine}
+use Rattle.machine.specs.declared.Outcome.{Outcome}
 use Rattle.machine.specs.declared.Event.{Event}
 use Rattle.machine.specs.Fields.{withHeld, withDevice, withBurst, withLedger}
 use Rattle.machine.specs.State as state
@@ -286,8 +287,8 @@ kept-gives : (m : Machine) (i j : ℕ) → m .burst ≡ burst.Open i j → ltb r
     → Kept (withBurst (burst.Open i (j + 1)) m) (gave (byteGiven m .value) ∷ h)
 kept-gives m i j e l h k = rw (gives-value m i j e l) (kept-gave m i j h e k)
 
-abbrev Keeps : Machine → Event → ℕ → Machine → Type 0
-Keeps m e n k = (h : List Happening) → Kept m h → Kept k (told n h e (byteGiven m .value) ++ h)
+abbrev Keeps : Machine → Event → Outcome → Type 0
+Keeps m e o = (h : List Happening) → Kept m h → Kept (o .machine) (told (o .answer) h e (byteGiven m .value) ++ h)
 
 keeps : Steps Keeps
 keeps = record {

@@ -14,6 +14,7 @@ use Rattle.machine.specs.declared.Held.the-variants.{Nothing, Byte}
 use Rattle.machine.specs.declared.Burst.the-variants as burst
 use Rattle.machine.specs.declared.Device.{Device}
 use Rattle.machine.specs.declared.Machine.{Machine}
+use Rattle.machine.specs.declared.Outcome.{Outcome}
 use Rattle.machine.specs.declared.Event.{Event}
 use Rattle.machine.specs.State.{runs, sleeps, standsBy, isHeld, isOpen}
 use Rattle.machine.specs.Counts.{isBarred}
@@ -99,8 +100,8 @@ module _ (m : Machine) (h : List Happening) (k : Kept m h) where
   refusal e n (Walk.close-without-burst c o) = rw (← opens, o)
   refusal e n (Walk.close-wrong-length c o l) = rw (← opens, o, l)
 
-abbrev Numbered : Machine → Event → ℕ → Machine → Type 0
-Numbered m e n l = (h : List Happening) → Kept m h → n ≡ numberIn h e
+abbrev Numbered : Machine → Event → Outcome → Type 0
+Numbered m e o = (h : List Happening) → Kept m h → o .answer ≡ numberIn h e
 
 numbered : Steps Numbered
 numbered = record {

@@ -12,7 +12,7 @@ use Rattle.paper.specs.Numbers.{done}
 use Rattle.paper.specs.Registers as reg
 use Rattle.machine.specs.declared.Burst.{Burst}
 use Rattle.machine.specs.declared.Burst.the-variants as burst
-use Rattle.machine.specs.declared.Given.{Given}
+use Rattle.machine.specs.declared.Outcome.{Outcome}
 use Rattle.machine.specs.declared.Machine.{Machine}
 use Rattle.machine.specs.State.{runs, isOpen}
 use Rattle.machine.specs.Data.{status, dataAt, register}
@@ -60,7 +60,7 @@ module _ (m : Machine) (h : List Happening) (k : Kept m h) where
           not-done : _≡_ {A = ℕ} 6 0 → ⊥
           not-done z = omega arith
       at (burst.Open i j) e =
-          pick (λ (g : Given). ByteIsTrue g h) (ltb reg.lastRegister j)
+          pick (λ (g : Outcome). ByteIsTrue g h) (ltb reg.lastRegister j)
           (λ l. record { value-is = λ z. absurd (not-done z); refused-is = λ _. refl })
           (λ l. record { value-is = λ _. register-is j (rw e) ∙ ap (registerIn h) (address-is m h k i j e); refused-is = λ z. absurd (z refl) })
         where

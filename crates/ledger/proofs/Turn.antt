@@ -17,7 +17,6 @@ use Rattle.machine.specs.declared.Burst.the-variants as burst
 use Rattle.machine.specs.declared.Device.{Device}
 use Rattle.machine.specs.declared.Machine.{Machine}
 use Rattle.machine.specs.declared.Outcome.{Outcome}
-use Rattle.machine.specs.declared.Closing.{Closing}
 use Rattle.machine.specs.Fields.{withPhase, withCopying, withF2, withHeld, withDevice, withBurst, withLedger}
 use Rattle.machine.specs.State.{runs, standsBy, isOpen}
 use Rattle.machine.specs.Counts.{isBarred, begunIf}
@@ -180,5 +179,5 @@ module _ (m : Machine) (t : Turn) where
     pub closes : closed (after m (measured t)) (t .lent) ≡ (wholeClosing read-from, bytes)
     unfolding showing
     closes = ap (λ (k : Machine). closed k (t .lent)) measures
-        ∙ ap (λ (c : Closing). (c, writtenTo c read-from (t .lent)))
+        ∙ ap (λ (c : Outcome). (c, writtenTo c (t .lent)))
         (passed (not (eqb (length (t .lent)) reg.dataLength)) _ (wholeClosing read-from) (ap not (eq-eqb (length (t .lent)) reg.dataLength (f .lends-eight))))

@@ -16,7 +16,7 @@ use Rattle.machine.specs.declared.Burst.the-variants.{Closed}
 use Rattle.machine.specs.declared.Codes.{Codes}
 use Rattle.machine.specs.declared.Device.{Device}
 use Rattle.machine.specs.declared.Ledger.{Ledger}
-use Rattle.machine.specs.declared.Closing.{Closing}
+use Rattle.machine.specs.declared.Outcome.{Outcome}
 use Rattle.machine.specs.declared.Machine.{Machine}
 use Rattle.machine.specs.Fields.{withBurst}
 use Rattle.machine.specs.State.{fresh, noConversion, runs, isForced, isThere, isUnread}
@@ -61,7 +61,7 @@ module _ (n : ℕ) (l : n < reg.mostBegun) (m : Machine) (t : Turn) (f : Fits t)
   begun-is = ap (λ (l : Ledger). l .begun) (r .ledger-is) ∙ omega arith
 
   ends-as : ended m t ≡ withBurst Closed (delivering (read-from m t))
-  ends-as = ap (λ (x : Closing × List ℕ). x .0 .machine) (closes m t f (r .runs-now) (r .held-is) (r .none-open)) ∙ closed-after m t (r .none-waits)
+  ends-as = ap (λ (x : Outcome × List ℕ). x .0 .machine) (closes m t f (r .runs-now) (r .held-is) (r .none-open)) ∙ closed-after m t (r .none-waits)
 
   codes-end : ended m t .device .codes ≡ m .device .codes
   unfolding showing delivering

@@ -11,7 +11,7 @@ use Rattle.machine.specs.declared.Phase.the-variants.{Sleep, Forced, Normal, St
 use Rattle.machine.specs.declared.Held.the-variants.{Nothing}
 use Rattle.machine.specs.declared.Burst.the-variants.{Closed}
 use Rattle.machine.specs.declared.Codes.{Codes}
-use Rattle.machine.specs.declared.Closing.{Closing}
+use Rattle.machine.specs.declared.Outcome.{Outcome}
 use Rattle.machine.specs.declared.Ledger.{Ledger}
 use Rattle.machine.specs.declared.Machine.{Machine}
 use Rattle.machine.specs.State.{fresh, freshAfter}
@@ -72,7 +72,7 @@ pub record Begins (m now : Machine) (c : Codes) : Type 0 where
   pub codes-are : now .device .codes ≡ c
 
 -- the close x shows the conversion n of the turn, with the codes c, and then n have begun and d are delivered
-pub record Delivers (n d : ℕ) (c : Codes) (t : Turn) (x : Closing) (left : List ℕ) : Type 0 where
+pub record Delivers (n d : ℕ) (c : Codes) (t : Turn) (x : Outcome) (left : List ℕ) : Type 0 where
   pub answer-is : x .answer ≡ done
   pub whole-is : x .whole ≡ true
   pub number-is : x .number ≡ n

@@ -15,15 +15,13 @@ use Rattle.machine.specs.declared.Machine.{Machine}
 use Rattle.machine.specs.declared.Event.{Event}
 use Rattle.machine.specs.declared.Event.the-variants.{Power, Copied, Write, Finish, Wake, Open, Byte, Close}
 use Rattle.machine.specs.declared.Outcome.{Outcome}
-use Rattle.machine.specs.declared.Given.{Given}
-use Rattle.machine.specs.declared.Closing.{Closing}
 use Rattle.machine.specs.Fields.{withCopying, withF2, withF5, withHeld, withDevice, withBurst}
 use Rattle.machine.specs.State.{runs, sleeps, standsBy, isHeld, isOpen}
 use Rattle.machine.specs.Counts.{isBarred}
 use Rattle.machine.specs.Control.{begins, effect}
-use Rattle.machine.specs.Data.{inRange, stored}
+use Rattle.machine.specs.Data.{inRange, stored, register}
 use Rattle.machine.specs.Events as ev
-use Rattle.machine.specs.Event.{next, answer}
+use Rattle.machine.specs.Event.{stepped}
 
 -- F2, F4 and F5 may be written: no burst is open, and nothing is being copied
 pub record MayControl (m : Machine) : Type 0 where
@@ -76,27 +74,27 @@ refuses-not-done (byte-past-last f a e l) = refl
 refuses-not-done (close-without-burst n o) = refl
 refuses-not-done (close-wrong-length n o l) = refl
 
--- of the machine before, the event, the number handed back, and the machine after
-pub record Steps (P : Machine → Event → ℕ → Machine → Type 0) : Type 0 where
-  pub refuses : (m : Machine) (e : Event) (n : ℕ) → Refuses m e n → P m e n m
-  pub powers : (m : Machine) → P m Power done (ev.reset m)
-  pub copies : (m : Machine) → m .device .copying ≡ true → P m Copied done (withDevice (withCopying false (m .device)) m)
-  pub resets : (m : Machine) → isOpen (m .burst) ≡ false → P m (Write reg.reset reg.resetWord) done (ev.reset m)
-  pub writes-f2 : (m : Machine) (v : ℕ) → MayControl m → P m (Write reg.ctrlHum v) done (withDevice (withF2 (v % 8) (m .device)) m)
+-- of the machine before, the event, and what it hands back
+pub record Steps (P : Machine → Event → Outcome → Type 0) : Type 0 where
+  pub refuses : (m : Machine) (e : Event) (n : ℕ) → Refuses m e n → P m e (ev.answered n m)
+  pub powers : (m : Machine) → P m Power (ev.answered done (ev.reset m))
+  pub copies : (m : Machine) → m .device .copying ≡ true → P m Copied (ev.answered done (withDevice (withCopying false (m .device)) m))
+  pub resets : (m : Machine) → isOpen (m .burst) ≡ false → P m (Write reg.reset reg.resetWord) (ev.answered done (ev.reset m))
+  pub writes-f2 : (m : Machine) (v : ℕ) → MayControl m → P m (Write reg.ctrlHum v) (ev.answered done (withDevice (withF2 (v % 8) (m .device)) m))
   pub writes-f5 : (m : Machine) (v : ℕ) → MayControl m → sleeps (m .device .phase) ≡ true
-      → P m (Write reg.config v) done (withDevice (withF5 (v / 4 * 4 + v % 2) (m .device)) m)
+      → P m (Write reg.config v) (ev.answered done (withDevice (withF5 (v / 4 * 4 + v % 2) (m .device)) m))
   pub holds-f4 : (m : Machine) (v : ℕ) → MayControl m → runs (m .device .phase) ≡ true → isHeld (m .device .held) ≡ false
-      → P m (Write reg.ctrlMeas v) done (withDevice (withHeld (held.Byte v) (m .device)) m)
+      → P m (Write reg.ctrlMeas v) (ev.answered done (withDevice (withHeld (held.Byte v) (m .device)) m))
   pub takes-f4 : (m : Machine) (v : ℕ) → MayControl m → runs (m .device .phase) ≡ false → isBarred (begins (m .device .phase) v) (m .ledger) ≡ false
-      → P m (Write reg.ctrlMeas v) done (effect m v)
+      → P m (Write reg.ctrlMeas v) (ev.answered done (effect m v))
   pub finishes : (m : Machine) (t p h : ℕ) → ev.mayFinish (m .device) ≡ true → inRange t p h ≡ true → isBarred (ev.heldWillBegin (m .device)) (m .ledger) ≡ false
-      → P m (Finish t p h) done (ev.converted m (stored (m .device) t p h))
-  pub wakes : (m : Machine) → standsBy (m .device .phase) ≡ true → isBarred true (m .ledger) ≡ false → P m Wake done (ev.awake m)
-  pub opens : (m : Machine) (a : ℕ) → isOpen (m .burst) ≡ false → reg.isReadable a ≡ true → P m (Open a) done (withBurst (burst.Open a a) m)
+      → P m (Finish t p h) (ev.answered done (ev.converted m (stored (m .device) t p h)))
+  pub wakes : (m : Machine) → standsBy (m .device .phase) ≡ true → isBarred true (m .ledger) ≡ false → P m Wake (ev.answered done (ev.awake m))
+  pub opens : (m : Machine) (a : ℕ) → isOpen (m .burst) ≡ false → reg.isReadable a ≡ true → P m (Open a) (ev.answered done (withBurst (burst.Open a a) m))
   pub gives : (m : Machine) (first at : ℕ) → m .burst ≡ burst.Open first at → ltb reg.lastRegister at ≡ false
-      → P m Byte done (withBurst (burst.Open first (at + 1)) m)
-  pub ends-whole : (m : Machine) → isOpen (m .burst) ≡ true → ev.isWhole (m .burst) ≡ true → P m (Close reg.dataLength) done (ev.ended (ev.delivering m))
-  pub ends-partial : (m : Machine) → isOpen (m .burst) ≡ true → ev.isWhole (m .burst) ≡ false → P m (Close reg.dataLength) done (ev.ended m)
+      → P m Byte (ev.given (register at m) (withBurst (burst.Open first (at + 1)) m))
+  pub ends-whole : (m : Machine) → isOpen (m .burst) ≡ true → ev.isWhole (m .burst) ≡ true → P m (Close reg.dataLength) (ev.wholeClosing m)
+  pub ends-partial : (m : Machine) → isOpen (m .burst) ≡ true → ev.isWhole (m .burst) ≡ false → P m (Close reg.dataLength) (ev.answered done (ev.ended m))
 
 -- a writable register that is none of the other three is F4
 last-writable : (a : ℕ) → reg.isWritable a ≡ true → eqb a reg.reset ≡ false → eqb a reg.ctrlHum ≡ false → eqb a reg.config ≡ false → a ≡ reg.ctrlMeas
@@ -106,91 +104,88 @@ last-writable a w r h c = at (eqb a reg.ctrlMeas) refl (rw (r, h, c) at w)
     at true e z = eqb-true a reg.ctrlMeas e
     at false e z = absurd (false≢true (rw e at z))
 
-module _ (P : Machine → Event → ℕ → Machine → Type 0) (s : Steps P) (m : Machine) where
-  abbrev Of : Event → Outcome → Type 0
-  Of e o = P m e (o .answer) (o .machine)
-
-  no : {e : Event} {n : ℕ} → Refuses m e n → P m e n m
+module _ (P : Machine → Event → Outcome → Type 0) (s : Steps P) (m : Machine) where
+  no : {e : Event} {n : ℕ} → Refuses m e n → P m e (ev.answered n m)
   no {e} {n} r = s .refuses m e n r
 
-  by-reset : (v : ℕ) → isOpen (m .burst) ≡ false → Of (Write reg.reset v) (ev.writtenReset m v)
+  by-reset : (v : ℕ) → isOpen (m .burst) ≡ false → P m (Write reg.reset v) (ev.writtenReset m v)
   by-reset v o =
-      pick (Of (Write reg.reset v)) (eqb v reg.resetWord)
-      (λ e. subst (λ (v : ℕ). P m (Write reg.reset v) done (ev.reset m)) (sym (eqb-true v reg.resetWord e)) (s .resets m o))
+      pick (P m (Write reg.reset v)) (eqb v reg.resetWord)
+      (λ e. subst (λ (v : ℕ). P m (Write reg.reset v) (ev.answered done (ev.reset m))) (sym (eqb-true v reg.resetWord e)) (s .resets m o))
       (λ e. no (reset-otherwise v o e))
 
-  by-f5 : (v : ℕ) → MayControl m → Of (Write reg.config v) (ev.writtenF5 m v)
+  by-f5 : (v : ℕ) → MayControl m → P m (Write reg.config v) (ev.writtenF5 m v)
   by-f5 v c =
-      pick (Of (Write reg.config v)) (not (sleeps (m .device .phase)))
+      pick (P m (Write reg.config v)) (not (sleeps (m .device .phase)))
       (λ e. no (f5-awake v c (not-true (sleeps (m .device .phase)) e)))
       (λ e. s .writes-f5 m v c (not-false (sleeps (m .device .phase)) e))
 
-  by-f4 : (v : ℕ) → MayControl m → Of (Write reg.ctrlMeas v) (ev.writtenF4 m v)
+  by-f4 : (v : ℕ) → MayControl m → P m (Write reg.ctrlMeas v) (ev.writtenF4 m v)
   by-f4 v c =
-      let Q = Of (Write reg.ctrlMeas v) in
+      let Q = P m (Write reg.ctrlMeas v) in
       pick Q (runs (m .device .phase))
       (λ u. pick Q (isHeld (m .device .held)) (λ q. no (f4-held v c u q)) (λ q. s .holds-f4 m v c u q))
       (λ i. pick Q (isBarred (begins (m .device .phase) v) (m .ledger)) (λ b. no (f4-barred v c i b)) (λ b. s .takes-f4 m v c i b))
 
-  by-control : (a v : ℕ) → isOpen (m .burst) ≡ false → reg.isWritable a ≡ true → eqb a reg.reset ≡ false → Of (Write a v) (ev.writtenControl m a v)
+  by-control : (a v : ℕ) → isOpen (m .burst) ≡ false → reg.isWritable a ≡ true → eqb a reg.reset ≡ false → P m (Write a v) (ev.writtenControl m a v)
   by-control a v o w r =
-      let Q = Of (Write a v) in
+      let Q = P m (Write a v) in
       pick Q (not (ev.mayWrite (m .device))) (λ y. no (write-copying a v o w r (not-true (ev.mayWrite (m .device)) y))) λ y.
       let c : MayControl m = record { none-open = o; may-write = not-false (ev.mayWrite (m .device)) y } in
-      pick Q (eqb a reg.ctrlHum) (λ h. subst (λ (a : ℕ). Of (Write a v) (ev.writtenF2 m v)) (sym (eqb-true a reg.ctrlHum h)) (s .writes-f2 m v c)) λ h.
-      pick Q (eqb a reg.config) (λ f. subst (λ (a : ℕ). Of (Write a v) (ev.writtenF5 m v)) (sym (eqb-true a reg.config f)) (by-f5 v c)) λ f.
-      subst (λ (a : ℕ). Of (Write a v) (ev.writtenF4 m v)) (sym (last-writable a w r h f)) (by-f4 v c)
+      pick Q (eqb a reg.ctrlHum) (λ h. subst (λ (a : ℕ). P m (Write a v) (ev.writtenF2 m v)) (sym (eqb-true a reg.ctrlHum h)) (s .writes-f2 m v c)) λ h.
+      pick Q (eqb a reg.config) (λ f. subst (λ (a : ℕ). P m (Write a v) (ev.writtenF5 m v)) (sym (eqb-true a reg.config f)) (by-f5 v c)) λ f.
+      subst (λ (a : ℕ). P m (Write a v) (ev.writtenF4 m v)) (sym (last-writable a w r h f)) (by-f4 v c)
 
-  by-write : (a v : ℕ) → Of (Write a v) (ev.written m a v)
+  by-write : (a v : ℕ) → P m (Write a v) (ev.written m a v)
   by-write a v =
-      let Q = Of (Write a v) in
+      let Q = P m (Write a v) in
       pick Q (isOpen (m .burst)) (λ o. no (write-in-burst a v o)) λ o.
       pick Q (not (reg.isWritable a)) (λ w. no (write-elsewhere a v o (not-true (reg.isWritable a) w))) λ w.
       pick Q (eqb a reg.reset)
-      (λ r. subst (λ (a : ℕ). Of (Write a v) (ev.writtenReset m v)) (sym (eqb-true a reg.reset r)) (by-reset v o))
+      (λ r. subst (λ (a : ℕ). P m (Write a v) (ev.writtenReset m v)) (sym (eqb-true a reg.reset r)) (by-reset v o))
       (λ r. by-control a v o (not-false (reg.isWritable a) w) r)
 
-  by-finish : (t p h : ℕ) → Of (Finish t p h) (ev.finished m t p h)
+  by-finish : (t p h : ℕ) → P m (Finish t p h) (ev.finished m t p h)
   by-finish t p h =
-      let Q = Of (Finish t p h) in
+      let Q = P m (Finish t p h) in
       pick Q (not (ev.mayFinish (m .device))) (λ u. no (finish-early t p h (not-true (ev.mayFinish (m .device)) u))) λ u.
       let may = not-false (ev.mayFinish (m .device)) u in
       pick Q (not (inRange t p h)) (λ r. no (finish-too-large t p h may (not-true (inRange t p h) r))) λ r.
       let fits = not-false (inRange t p h) r in
       pick Q (isBarred (ev.heldWillBegin (m .device)) (m .ledger)) (λ b. no (finish-barred t p h may fits b)) (s .finishes m t p h may fits)
 
-  by-wake : Of Wake (ev.woken m)
+  by-wake : P m Wake (ev.woken m)
   by-wake =
-      pick (Of Wake) (not (standsBy (m .device .phase))) (λ y. no (wake-elsewhere (not-true (standsBy (m .device .phase)) y))) λ y.
+      pick (P m Wake) (not (standsBy (m .device .phase))) (λ y. no (wake-elsewhere (not-true (standsBy (m .device .phase)) y))) λ y.
       let stands-by = not-false (standsBy (m .device .phase)) y in
-      pick (Of Wake) (isBarred true (m .ledger)) (λ b. no (wake-barred stands-by b)) (s .wakes m stands-by)
+      pick (P m Wake) (isBarred true (m .ledger)) (λ b. no (wake-barred stands-by b)) (s .wakes m stands-by)
 
-  by-open : (a : ℕ) → Of (Open a) (ev.opened m a)
+  by-open : (a : ℕ) → P m (Open a) (ev.opened m a)
   by-open a =
-      let Q = Of (Open a) in
+      let Q = P m (Open a) in
       pick Q (isOpen (m .burst)) (λ o. no (open-in-burst a o)) λ o.
       pick Q (not (reg.isReadable a)) (λ r. no (open-elsewhere a o (not-true (reg.isReadable a) r))) (λ r. s .opens m a o (not-false (reg.isReadable a) r))
 
-  by-byte : (b : Burst) → m .burst ≡ b → let g = ev.byteOf b m in P m Byte (g .answer) (g .machine)
+  by-byte : (b : Burst) → m .burst ≡ b → P m Byte (ev.byteOf b m)
   by-byte burst.Closed e = no (byte-without-burst (rw e))
   by-byte (burst.Open first at) e =
-      pick (λ (g : Given). P m Byte (g .answer) (g .machine)) (ltb reg.lastRegister at) (λ l. no (byte-past-last first at e l)) (s .gives m first at e)
+      pick (P m Byte) (ltb reg.lastRegister at) (λ l. no (byte-past-last first at e l)) (s .gives m first at e)
 
-  by-close : (n : ℕ) → let c = ev.closing m n in P m (Close n) (c .answer) (c .machine)
+  by-close : (n : ℕ) → P m (Close n) (ev.closing m n)
   by-close n =
-      let Q : Closing → Type 0 = λ c. P m (Close n) (c .answer) (c .machine) in
+      let Q = P m (Close n) in
       pick Q (not (isOpen (m .burst))) (λ o. no (close-without-burst n (not-true (isOpen (m .burst)) o))) λ o.
       let open-is = not-false (isOpen (m .burst)) o in
       pick Q (not (eqb n reg.dataLength)) (λ l. no (close-wrong-length n open-is (not-true (eqb n reg.dataLength) l))) λ l.
       let length-is = sym (eqb-true n reg.dataLength (not-false (eqb n reg.dataLength) l)) in
       pick Q (ev.isWhole (m .burst))
-      (λ w. subst (λ (n : ℕ). P m (Close n) done (ev.ended (ev.delivering m))) length-is (s .ends-whole m open-is w))
-      (λ w. subst (λ (n : ℕ). P m (Close n) done (ev.ended m)) length-is (s .ends-partial m open-is w))
+      (λ w. subst (λ (n : ℕ). P m (Close n) (ev.wholeClosing m)) length-is (s .ends-whole m open-is w))
+      (λ w. subst (λ (n : ℕ). P m (Close n) (ev.answered done (ev.ended m))) length-is (s .ends-partial m open-is w))
 
-  pub walk : (e : Event) → P m e (answer m e) (next m e)
+  pub walk : (e : Event) → P m e (stepped m e)
   walk Power = s .powers m
   walk Copied =
-      pick (Of Copied) (not (m .device .copying)) (λ c. no (not-copying (not-true (m .device .copying) c))) (λ c. s .copies m (not-false (m .device .copying) c))
+      pick (P m Copied) (not (m .device .copying)) (λ c. no (not-copying (not-true (m .device .copying) c))) (λ c. s .copies m (not-false (m .device .copying) c))
   walk (Write a v) = by-write a v
   walk (Finish t p h) = by-finish t p h
   walk Wake = by-wake

@@ -1,14 +1,15 @@
 // The three events of a burst: open, byte and close.
 ghost use mathlib.Core.Path.{_≡_};
+ghost use lib.ListN.{length};
+ghost use Rattle.paper.specs.Registers as reg;
 ghost use Rattle.machine.specs.Events as ev;
 use machine::Burst;
-use machine::Closing;
-use machine::Given;
 use machine::Machine;
 use machine::Outcome;
 use machine_state::answer;
 
 mod reading; // what byte gives, and how close ends a burst
+mod registers; // the register at an address
 
 // A burst is opened at an address.
 pub fn open(m: Machine, address: u8) -> Outcome
@@ -26,29 +27,53 @@ pub fn open(m: Machine, address: u8) -> Outcome
 }
 
 // The open burst gives its next register.
-pub fn byte(m: Machine) -> Given
+pub fn byte(m: Machine) -> Outcome
     ensures { λ r. ⌜ r ≡ ev.byteGiven m ⌝ }
 {
     let burst = m.burst;
     reading::give(burst, m)
 }
 
-// The open burst is closed; a whole one writes the eight shown bytes to the lent buffer.
-pub fn close(m: Machine, lent: &mut [u8]) -> Closing
-    ensures { λ r. ⌜ (r, now (lent .exit)) ≡ ev.closed m (now (lent .entry)) ⌝ }
+// The open burst is closed, by the length of the buffer that is lent.
+// A whole one hands back the eight bytes that stand in that buffer afterwards.
+pub fn close_by_length(m: Machine, length: usize) -> Outcome
+    ensures { λ r. ⌜ r ≡ ev.closing m length ⌝ }
 {
     let burst = m.burst;
     if !machine_state::is_open(burst) {
-        return reading::close_empty(paper::WRONG_PHASE, m);
+        return answer(paper::WRONG_PHASE, m);
     }
-    if lent.len() != paper::DATA {
-        return reading::close_empty(paper::WRONG_LENGTH, m);
+    if length != paper::DATA {
+        return answer(paper::WRONG_LENGTH, m);
     }
     if reading::is_whole(burst) {
-        let shown = m.shown;
-        let bytes = shown.bytes;
-        reading::lay_over(lent, bytes);
         return reading::close_whole(m);
     }
-    reading::close_empty(paper::DONE, reading::end(m))
+    answer(paper::DONE, reading::end(m))
+}
+
+// The open burst is closed.
+// A whole one writes the eight shown bytes to the lent buffer.
+pub fn close(m: Machine, lent: &mut [u8]) -> Outcome
+    ensures { λ r. ⌜ (r, now (lent .exit)) ≡ ev.closed m (now (lent .entry)) ⌝ }
+{
+    let closing = close_by_length(m, lent.len());
+    if closing.whole {
+        let bytes = closing.bytes;
+        lay_over(lent, bytes);
+        return closing;
+    }
+    closing
+}
+
+// The eight bytes are laid over a buffer of eight.
+fn lay_over(lent: &mut [u8], bytes: [u8; 8])
+    requires { ⌜ length (now lent) ≡ reg.dataLength ⌝ }
+    ensures { λ _. ⌜ now (lent .exit) ≡ bytes ⌝ }
+{
+    let mut i: usize = 0;
+    while i < paper::DATA {
+        lent[i] = bytes[i];
+        i += 1;
+    }
 }

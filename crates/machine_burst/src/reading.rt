@@ -1,14 +1,12 @@
 // Bursts: what byte gives, and how close ends one.
 ghost use mathlib.Core.Path.{_≡_};
-ghost use lib.ListN.{length};
-ghost use Rattle.paper.specs.Registers as reg;
 ghost use Rattle.machine.specs.Events as ev;
 ghost use Rattle.machine.specs.Fields as fields;
+use crate::registers;
 use machine::Burst;
-use machine::Closing;
-use machine::Codes;
-use machine::Given;
 use machine::Machine;
+use machine::Outcome;
+use machine_state::answer;
 
 // The machine with another burst.
 pub fn with_burst(burst: Burst, m: Machine) -> Machine
@@ -28,34 +26,24 @@ pub fn with_burst(burst: Burst, m: Machine) -> Machine
 }
 
 // The next register of a burst that was opened at first.
-fn give_at(first: u16, next: u16, m: Machine) -> Given
+fn give_at(first: u16, next: u16, m: Machine) -> Outcome
     ensures { λ r. ⌜ r ≡ ev.byteAt first next m ⌝ }
 {
     if (paper::LAST_REGISTER as u16) < next {
-        return Given {
-            answer: paper::ADDRESS_NOT_ALLOWED,
-            value: 0,
-            machine: m,
-        };
+        return answer(paper::ADDRESS_NOT_ALLOWED, m);
     }
     let address = next as u8;
-    Given {
-        answer: paper::DONE,
-        value: machine_registers::register(address, m),
-        machine: with_burst(Burst::Open(first, next + 1), m),
-    }
+    let mut o = answer(paper::DONE, with_burst(Burst::Open(first, next + 1), m));
+    o.value = registers::register(address, m);
+    o
 }
 
 // The next register of a burst, if it is open.
-pub fn give(burst: Burst, m: Machine) -> Given
+pub fn give(burst: Burst, m: Machine) -> Outcome
     ensures { λ r. ⌜ r ≡ ev.byteOf burst m ⌝ }
 {
     match burst {
-        Burst::Closed => Given {
-            answer: paper::WRONG_PHASE,
-            value: 0,
-            machine: m,
-        },
+        Burst::Closed => answer(paper::WRONG_PHASE, m),
         Burst::Open(first, next) => give_at(first, next, m),
     }
 }
@@ -78,49 +66,21 @@ pub fn end(m: Machine) -> Machine
     with_burst(Burst::Closed, machine_conversion::show_waiting(m))
 }
 
-// The answer that has no number, no codes and no delivery to tell.
-pub fn close_empty(answer: u8, m: Machine) -> Closing
-    ensures { λ r. ⌜ r ≡ ev.emptyClosing answer m ⌝ }
-{
-    let codes = Codes {
-        temperature: 0,
-        pressure: 0,
-        humidity: 0,
-    };
-    Closing {
-        answer: answer,
-        whole: false,
-        number: 0,
-        codes: codes,
-        delivered: false,
-        machine: m,
-    }
-}
-
 // The answer of a whole burst, which delivers what it showed.
-pub fn close_whole(m: Machine) -> Closing
+pub fn close_whole(m: Machine) -> Outcome
     ensures { λ r. ⌜ r ≡ ev.wholeClosing m ⌝ }
 {
     let shown = m.shown;
     let codes = shown.codes;
-    Closing {
+    let bytes = shown.bytes;
+    Outcome {
         answer: paper::DONE,
+        value: 0,
         whole: true,
         number: shown.number,
         codes: codes,
         delivered: shown.delivered,
+        bytes: bytes,
         machine: end(machine_conversion::deliver(m)),
-    }
-}
-
-// The eight bytes are laid over a buffer of eight.
-pub fn lay_over(lent: &mut [u8], bytes: [u8; 8])
-    requires { ⌜ length (now lent) ≡ reg.dataLength ⌝ }
-    ensures { λ _. ⌜ now (lent .exit) ≡ bytes ⌝ }
-{
-    let mut i: usize = 0;
-    while i < paper::DATA {
-        lent[i] = bytes[i];
-        i += 1;
     }
 }

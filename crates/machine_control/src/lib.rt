@@ -38,19 +38,25 @@ pub fn enter(phase: Phase, d: Device) -> Device
     machine_state::with_phase(phase, d)
 }
 
+// The oversampling codes of F4, humidity's from F2.
+fn latch(d: Device, f4: u8) -> Codes
+    ensures { λ r. ⌜ r ≡ control.latched d f4 ⌝ }
+{
+    Codes {
+        temperature: f4 / 32,
+        pressure: f4 / 4 % 8,
+        humidity: d.f2,
+    }
+}
+
 // F4 is set, the codes are latched, and none is held any more.
 fn set_control(d: Device, f4: u8) -> Device
     ensures { λ r. ⌜ r ≡ control.controlled d f4 ⌝ }
 {
     let phase = d.phase;
-    let codes = Codes {
-        temperature: f4 / 32,
-        pressure: f4 / 4 % 8,
-        humidity: d.f2,
-    };
     let mut e = d;
     e.f4 = f4;
-    e.codes = codes;
+    e.codes = latch(d, f4);
     enter(
         phase_after(phase, f4),
         machine_state::with_held(Held::Nothing, e),

@@ -3,7 +3,6 @@ ghost use mathlib.Core.Path.{_≡_};
 ghost use Rattle.machine.specs.State as state;
 ghost use Rattle.machine.specs.Events as ev;
 use machine::Burst;
-use machine::Codes;
 use machine::Device;
 use machine::Held;
 use machine::Ledger;
@@ -37,11 +36,8 @@ pub fn fresh_after(conversions: u32) -> Machine
 fn fresh_with(l: Ledger) -> Machine
     ensures { λ r. ⌜ r ≡ state.freshWith l ⌝ }
 {
-    let codes = Codes {
-        temperature: 0,
-        pressure: 0,
-        humidity: 0,
-    };
+    let none = machine_state::no_conversion();
+    let codes = none.codes;
     let device = Device {
         phase: Phase::Sleep,
         copying: true,
@@ -51,7 +47,6 @@ fn fresh_with(l: Ledger) -> Machine
         held: Held::Nothing,
         codes: codes,
     };
-    let none = machine_state::no_conversion();
     Machine {
         device: device,
         burst: Burst::Closed,

@@ -12,6 +12,13 @@ use machine::Machine;
 use machine::Outcome;
 use machine::Phase;
 
+// No codes.
+const NO_CODES: Codes = Codes {
+    temperature: 0,
+    pressure: 0,
+    humidity: 0,
+};
+
 // Whether a conversion is running.
 pub fn is_running(p: Phase) -> bool
     ensures { λ r. ⌜ r ≡ state.runs p ⌝ }
@@ -46,11 +53,10 @@ pub fn is_open(b: Burst) -> bool
     }
 }
 
-// The device in another phase.
-pub fn with_phase(phase: Phase, d: Device) -> Device
-    ensures { λ r. ⌜ r ≡ fields.withPhase phase d ⌝ }
+// The device in a phase and with an F4 held or none, all else as it was.
+fn device_with(phase: Phase, held: Held, d: Device) -> Device
+    ensures { λ r. ⌜ r ≡ fields.withPhase phase (fields.withHeld held d) ⌝ }
 {
-    let held = d.held;
     let codes = d.codes;
     Device {
         phase: phase,
@@ -61,6 +67,14 @@ pub fn with_phase(phase: Phase, d: Device) -> Device
         held: held,
         codes: codes,
     }
+}
+
+// The device in another phase.
+pub fn with_phase(phase: Phase, d: Device) -> Device
+    ensures { λ r. ⌜ r ≡ fields.withPhase phase d ⌝ }
+{
+    let held = d.held;
+    device_with(phase, held, d)
 }
 
 // The device with another F4 held, or none.
@@ -68,42 +82,37 @@ pub fn with_held(held: Held, d: Device) -> Device
     ensures { λ r. ⌜ r ≡ fields.withHeld held d ⌝ }
 {
     let phase = d.phase;
-    let codes = d.codes;
-    Device {
-        phase: phase,
-        copying: d.copying,
-        f2: d.f2,
-        f4: d.f4,
-        f5: d.f5,
-        held: held,
-        codes: codes,
-    }
-}
-
-// A number and the machine afterwards.
-pub fn answer(number: u8, m: Machine) -> Outcome
-    ensures { λ r. ⌜ r ≡ ev.answered number m ⌝ }
-{
-    Outcome {
-        answer: number,
-        machine: m,
-    }
+    device_with(phase, held, d)
 }
 
 // No conversion.
 pub fn no_conversion() -> Conversion
     ensures { λ r. ⌜ r ≡ state.noConversion ⌝ }
 {
-    let codes = Codes {
-        temperature: 0,
-        pressure: 0,
-        humidity: 0,
-    };
+    let codes = NO_CODES;
     let bytes = paper::FRESH_BYTES;
     Conversion {
         number: 0,
         codes: codes,
         bytes: bytes,
         delivered: false,
+    }
+}
+
+// A number and the machine afterwards, and nothing else.
+pub fn answer(number: u8, m: Machine) -> Outcome
+    ensures { λ r. ⌜ r ≡ ev.answered number m ⌝ }
+{
+    let codes = NO_CODES;
+    let bytes = [0u8; 8];
+    Outcome {
+        answer: number,
+        value: 0,
+        whole: false,
+        number: 0,
+        codes: codes,
+        delivered: false,
+        bytes: bytes,
+        machine: m,
     }
 }

@@ -10,7 +10,7 @@ use Rattle.formula.specs.declared.TemperatureAnswer.the-variants as heat
 use Rattle.formula.specs.declared.ChannelAnswer.{ChannelAnswer}
 use Rattle.formula.specs.declared.ChannelAnswer.the-variants as channel
 use Rattle.compensation.specs.declared.Reading.{Reading}
-use Rattle.machine.specs.declared.Closing.{Closing}
+use Rattle.machine.specs.declared.Outcome.{Outcome}
 use Rattle.machine.specs.declared.Ledger.{Ledger}
 
 abbrev pub ofTemperature : TemperatureAnswer → List ℤ
@@ -46,7 +46,7 @@ abbrev pub bit : Bool → ℕ
 bit true = 1
 bit false = 0
 
-abbrev pub ofClosing : Closing → List ℤ
+abbrev pub ofClosing : Outcome → List ℤ
 ofClosing c = ofNumbers (c .answer ∷ bit (c .whole) ∷ c .number ∷ [])
 
 -- begun, delivered, overwritten, abandoned, standing

@@ -1,4 +1,4 @@
--- The definition is the same three calls.
+-- The definition is the same four calls.
 use Rattle.machine_control.proofs.set_control.Statement.{statement}
 use Rattle.machine_control.proofs.set_control.Tie as tie
 
@@ -9,4 +9,5 @@ set-control-spec =
     (λ c κs. tt)
     (λ c κs. tt)
     (λ c κs. tt)
-    (λ c. rw (c .enter .ensures, c .before .with-held .ensures, c .before .before .phase-after .ensures)))
+    (λ c κs. tt)
+    (λ c. rw (c .enter .ensures, c .before .with-held .ensures, c .before .before .phase-after .ensures, c .before .before .before .latch .ensures)))

@@ -3,7 +3,7 @@ use Rattle.bench_machine.specs.Happenings.{closeInto, closedTold}
 use Prim.Native.Nat.{ℕ}
 use mathlib.Core.List.{List}
 use mathlib.Core.Path.{ap}
-use Rattle.machine.specs.declared.Closing.{Closing}
+use Rattle.machine.specs.declared.Outcome.{Outcome}
 use borrow.Author.Needs.{needs}
 use Rattle.bench_machine.proofs.reads.close_into.Statement.{statement}
 use Rattle.bench_machine.proofs.reads.close_into.Tie as tie
@@ -12,7 +12,7 @@ returns : tie.Need-returns
 unfolding closeInto closedTold
 returns c =
     let a = c .before .before .before .before .before .before .before .before .before .before .before .before .before .before .before .before .args in
-    rw (c .before .before .buffer .ensures, c .before .before .before .before .before .before .before .tell-closing .ensures) (ap (λ (x : Closing × List ℕ). closedTold x (a .out .now, a .at)) (c .before .before .before .before .before .before .before .before .before .before .before .before .close .ensures))
+    rw (c .before .before .buffer .ensures, c .before .before .before .before .before .before .before .tell-closing .ensures) (ap (λ (x : Outcome × List ℕ). closedTold x (a .out .now, a .at)) (c .before .before .before .before .before .before .before .before .before .before .before .before .close .ensures))
 
 pub close-into-spec : {M : Type 1} → statement M
 close-into-spec =

@@ -9,7 +9,8 @@ give-spec =
     tie.close
     (tie.spec
     (λ c. search needs)
+    (λ c κs. tt)
     (λ c. search needs)
     (λ c κs. tt)
-    (λ c. rw (c .enum-told .given .1))
+    (λ c. rw (c .before .enum-told .given .1, c .answer .ensures))
     (λ c. rw (c .before .before .burst .given .1) (search cases)))

@@ -9,9 +9,11 @@ give-at-spec =
     tie.close
     (tie.spec
     (λ c. search needs)
+    (λ c κs. tt)
     (λ c. search cases)
     (λ c. search needs)
-    (λ c κs. tt)
     (λ c. search needs)
     (λ c κs. tt)
-    (λ c. rw (c .with-burst .ensures, c .before .register .ensures) (search cases)))
+    (λ c κs. tt)
+    (λ c κs. tt)
+    (λ c. rw (c .register .ensures, c .before .answer2 .ensures, c .before .before .with-burst .ensures) (search cases)))

@@ -4,7 +4,7 @@ use mathlib.Core.Path.{ap, _∙_}
 use mathlib.Core.List.{List}
 use borrow.Author.Needs.{needs}
 use Rattle.laws.specs.Cases.{eq-yes, eq-no}
-use Rattle.machine.specs.declared.Closing.{Closing}
+use Rattle.machine.specs.declared.Outcome.{Outcome}
 use Rattle.measure_cycles.specs.declared.forced.Ridden.{Ridden}
 use Rattle.measure_cycles.specs.Cycles.{closedAfter, afterOpen}
 use Rattle.measure_cycles.proofs.forced.read_burst.Statement.{statement}
@@ -23,7 +23,7 @@ returns-2 c =
     let e = k .before .before in
     let s = e .before .before .before .before in
     eq-yes _ _ _ _ _ (e .before .if1 .left)
-    (ap (λ (q : Closing × List ℕ). (record { machine = q .0 .machine; seen = e .take-eight .result .seen }, q .1)) (k .close .ensures)
+    (ap (λ (q : Outcome × List ℕ). (record { machine = q .0 .machine; seen = e .take-eight .result .seen }, q .1)) (k .close .ensures)
     ∙ ap (λ (r : Ridden). closedAfter r (s .args .lent .now)) (e .take-eight .ensures))
 
 pub read-burst-spec : {M : Type 1} → statement M

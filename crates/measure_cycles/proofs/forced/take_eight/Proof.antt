@@ -5,13 +5,13 @@ use native.Mathlib.Omega.{arith}
 use lib.Bits.{bitXor}
 use borrow.Author.Needs.{needs}
 use Rattle.machine.specs.declared.Machine.{Machine}
-use Rattle.machine.specs.declared.Given.{Given}
+use Rattle.machine.specs.declared.Outcome.{Outcome}
 use Rattle.machine.specs.Events.{byteGiven}
 use Rattle.measure_cycles.specs.Cycles.{given}
 use Rattle.measure_cycles.proofs.forced.take_eight.Statement.{statement}
 use Rattle.measure_cycles.proofs.forced.take_eight.Tie as tie
 
-one-more : (m : Machine) (seen i : ℕ) (g : Given) → i < 8 → g ≡ byteGiven m → given (8 - (i + 1)) (g .machine) (bitXor seen (g .value)) ≡ given (8 - i) m seen
+one-more : (m : Machine) (seen i : ℕ) (g : Outcome) → i < 8 → g ≡ byteGiven m → given (8 - (i + 1)) (g .machine) (bitXor seen (g .value)) ≡ given (8 - i) m seen
 unfolding given
 one-more m seen i g h e = let z : 8 - i ≡ suc (8 - (i + 1)) = omega arith in rw (e, z)
 

@@ -6,8 +6,8 @@ use native.Mathlib.Numerals.{add-one}
 use lib.ListN.{length, take, set, getD}
 use lib.Seq.{take-suc, take-suc-set, take-all}
 use borrow.Author.Needs.{needs}
-use Rattle.machine_burst.proofs.reading.lay_over.Statement.{statement}
-use Rattle.machine_burst.proofs.reading.lay_over.Tie as tie
+use Rattle.machine_burst.proofs.lay_over.Statement.{statement}
+use Rattle.machine_burst.proofs.lay_over.Tie as tie
 
 one-more : (b s : List ℕ) (i : ℕ) → i < length b → i < length s → take i b ≡ take i s → take (i + 1) (set b i (getD s i 0)) ≡ take (i + 1) s
 one-more b s i hb hs e = rw (add-one, take-suc-set b i, take-suc s i 0, e)
