@@ -26,8 +26,8 @@ calibrations =
     ∷ (calibrationAnswer (calibrated (inTurn 13 0xFF 0x7F) (inTurn 3 0xFF 0x7F ++ 0x7F ∷ []))
     gives given (replicate 12 (pos 32767) ++ pos 127 ∷ pos 32767 ∷ pos 255 ∷ pos 2047 ∷ pos 2047 ∷ pos 127 ∷ []))
     -- the nibbles of 0xE5 apart
-    ∷ (calibrationAnswer (calibrated (inTurn 13 0 0) (inTurn 2 0 0 ++ 0x5A ∷ 0 ∷ 0 ∷ []))
-    gives given (replicate 15 (pos 0) ++ pos 10 ∷ pos 5 ∷ pos 0 ∷ []))
+    ∷ (calibrationAnswer (calibrated (inTurn 13 0 0) (inTurn 2 0 0 ++ 0xA5 ∷ 0 ∷ 0 ∷ []))
+    gives given (replicate 15 (pos 0) ++ pos 5 ∷ pos 10 ∷ pos 0 ∷ []))
     -- a byte too few or too many in either block
     ∷ (calibrationAnswer (calibrated (countedUp 25 0) (countedUp 7 0)) gives refused 2)
     ∷ (calibrationAnswer (calibrated (countedUp 27 0) (countedUp 7 0)) gives refused 2)
