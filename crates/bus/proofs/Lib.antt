@@ -7,3 +7,4 @@ pub mod Numbers
 pub mod Wire
 pub mod RoundTrip
 pub mod OneAnswer
+pub mod Examples

@@ -6,4 +6,3 @@ pub mod Devices
 pub mod Lent
 pub mod Writing
 pub mod Reading
-pub mod Examples

@@ -1,5 +1,5 @@
 -- `polled` finds the first ready byte, and whatever does so is `polled`.
-use Prim.Native.Nat.{ℕ, zero, suc, _+_, _≤_, _<_}
+use Prim.Native.Nat.{ℕ, zero, suc, _+_, _*_, _/_, _%_, _≤_, _<_}
 use native.Mathlib.Omega.{arith}
 use lib.Dec.{ltb}
 use lib.ListN.{length, getD, take}
@@ -13,7 +13,16 @@ use Rattle.laws.specs.Tests as tests
 use Rattle.paper.specs.Answers.{Answer, given}
 use Rattle.paper.proofs.Answers.{same-number, same-values}
 use Rattle.waiting.specs.Polling.{isReady, firstReady, limit, place, never, polled}
-use Rattle.waiting.specs.FirstReady.{Found, NeverReady, FindsFirst}
+use Rattle.waiting.specs.FirstReady.{ByBits, Found, NeverReady, FindsFirst}
+
+-- ---- a ready byte
+
+pub by-bits : ByBits isReady
+by-bits high running middle copying r m c =
+    let byte = high * 16 + running * 8 + middle * 2 + copying in
+    let bit3 : byte / 8 % 2 ≡ running = omega arith in
+    let bit0 : byte % 2 ≡ copying = omega arith in
+    rw (bit3, bit0)
 
 -- ---- the first ready byte of a list
 

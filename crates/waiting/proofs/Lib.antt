@@ -2,3 +2,4 @@
 pub mod Bounds
 pub mod FirstReady
 pub mod OneAnswer
+pub mod Examples

@@ -1,12 +1,19 @@
 -- What polling is to find, said of the bytes themselves: a place is answered exactly where its byte is the first ready one within
 -- both limits, and 17 exactly where no byte within them is ready.
-use Prim.Native.Nat.{ℕ, _+_, _≤_, _<_, min}
+use Prim.Native.Nat.{ℕ, _+_, _*_, _≤_, _<_, min}
+use lib.Dec.{eqb}
 use lib.ListN.{length, getD}
-use mathlib.Core.Bool.{true, false}
+use mathlib.Core.Bool.{Bool, true, false, _&&_}
 use mathlib.Core.List.{List, [], _∷_}
 use mathlib.Core.Path.{_≡_}
 use Rattle.paper.specs.Answers.{Answer, given}
 use Rattle.waiting.specs.Polling.{isReady, never}
+
+-- bits 3 and 0 decide, whatever the others say
+abbrev pub ByBits : (ℕ → Bool) → Type 0
+ByBits ready =
+    (high running middle copying : ℕ) → running < 2 → middle < 4 → copying < 2 →
+    ready (high * 16 + running * 8 + middle * 2 + copying) ≡ (eqb running 0 && eqb copying 0)
 
 -- the byte at the place is ready and none before it is; the polls are one more than the place, and within both limits
 pub record Found (status : List ℕ) (allowance at polls : ℕ) : Type 0 where
