@@ -1,7 +1,7 @@
 -- What a number of a line is as a code, a byte, a count or a length, and the arrays that a line's bytes are laid in.
 use Prim.Native.Nat.{ℕ, _%_, min}
 use mathlib.Core.List.{List}
-use lib.ListN.{replicate, take}
+use lib.ListN.{replicate}
 
 abbrev pub longestBuffer : ℕ
 longestBuffer = 256
@@ -20,14 +20,3 @@ octet n = n % 256
 
 unfoldable pub count : ℕ → ℕ
 count n = n % 4294967296
-
--- a length that was not refused is within the longest buffer
-unfoldable pub within : ℕ → ℕ
-within n = min n longestBuffer
-
--- a lent buffer of the longest length, filled with AA, and the part of it that is of the length asked
-unfoldable pub filled : List ℕ
-filled = replicate longestBuffer 0xAA
-
-unfoldable pub lentOf : ℕ → List ℕ
-lentOf n = take (within n) filled

@@ -1,3 +1,2 @@
 -- Codes, bytes, counts and lengths, and the arrays beside them.
 pub mod Amounts
-pub mod Lent

@@ -1,6 +1,5 @@
 // What a number of a line is as a code, a byte, a count or a length, and the arrays that a line's bytes are laid in.
 ghost use mathlib.Core.Path.{_≡_};
-ghost use Prim.Native.Nat.{_≤_};
 ghost use lib.ListN.{length as size};
 ghost use Rattle.bench_amounts.specs.Amounts as amounts;
 
@@ -12,13 +11,6 @@ pub fn room() -> [u8; 2048]
     ensures { λ r. ⌜ (r ≡ amounts.room) × (2048 ≡ size r) ⌝ }
 {
     [0; 2048]
-}
-
-// A lent buffer of the longest length, filled with AA.
-pub fn filled() -> [u8; 256]
-    ensures { λ r. ⌜ (r ≡ amounts.filled) × (256 ≡ size r) ⌝ }
-{
-    [0xAA; 256]
 }
 
 // A setting code as a byte: one that a byte does not hold is out of range all the same.
@@ -40,15 +32,4 @@ pub fn count(n: usize) -> u32
     ensures { λ r. ⌜ r ≡ amounts.count n ⌝ }
 {
     (n % 4294967296) as u32
-}
-
-// A buffer's length within the longest.
-pub fn within(n: usize) -> usize
-    ensures { λ r. ⌜ (r ≡ amounts.within n) × (r ≤ 256) ⌝ }
-{
-    if n < LONGEST_BUFFER {
-        n
-    } else {
-        LONGEST_BUFFER
-    }
 }

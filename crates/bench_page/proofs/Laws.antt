@@ -14,6 +14,10 @@ unfolding written
 written-append [] t p = refl
 written-append (b ∷ s) t p = written-append s t (writtenByte b p)
 
+-- a text written and then another is both written
+pub joined : (s t : List ℕ) (p : List ℕ × ℕ) {q r : List ℕ × ℕ} → q ≡ written s p → r ≡ written t q → r ≡ written (s ++ t) p
+joined s t p e f = rw (written-append s t p, ← e) f
+
 -- so many more digits hold every number below this
 abbrev bound : ℕ → ℕ
 bound zero = 10

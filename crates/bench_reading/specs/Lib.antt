@@ -1,2 +1,3 @@
 -- The answers of cal and comp.
-pub mod Readings
+pub mod Words
+pub mod Reading

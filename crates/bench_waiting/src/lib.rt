@@ -1,115 +1,82 @@
 // Waiting times and polls: wait, poll.
 ghost use mathlib.Core.Path.{_≡_};
-ghost use Rattle.waiting.specs.Waiting.{maximum, typical, waitAnswer};
-ghost use Rattle.waiting.specs.Polling.{pollAnswer};
+ghost use Rattle.bench_page.specs.Page.{_▹_};
+ghost use Rattle.paper.specs.Numbers.{done, neverReady};
+ghost use Rattle.waiting.specs.Waiting.{maximum, typical, waited, waitAnswer};
+ghost use Rattle.waiting.specs.Polling.{polled, pollAnswer};
 ghost use Rattle.bench_waiting.specs.Times as times;
-use bench_arguments::Three;
-use bench_arguments::Two;
-use bench_command::Time;
-use bench_numbers::front;
 use waiting::Estimate;
 use waiting::Polled;
 use waiting::Wait;
 
-// Answers a time's line: writes the microseconds, the place and the polls, or the number or reason that refuses.
-pub fn answer(time: Time, line: &[u8], out: &mut [u8], at: usize) -> usize
-    ensures { λ r. ⌜ (now (out .exit), r) ≡ times.answered time (now (line .entry)) (now (out .entry), at) ⌝ }
+// Writes the microseconds that a conversion at three codes takes at most, or the number that refuses them.
+pub fn wait_maximum(t: u8, p: u8, h: u8, out: &mut [u8], at: usize) -> usize
+    ensures { λ r. ⌜ (now (out .exit), r) ≡ (now (out .entry), at) ▹ times.wait (waited maximum t p h) ⌝ }
 {
-    match time {
-        Time::WaitMaximum => wait_at_most(bench_arguments::decimals(line, 2, 3, 4), out, at),
-        Time::WaitTypical => wait_typically(bench_arguments::decimals(line, 2, 3, 4), out, at),
-        Time::Poll => poll(line, out, at),
-    }
+    write_wait(waiting::estimate_wait(Estimate::Maximum, t, p, h), out, at)
 }
 
-// wait max t p h: answers the maximum wait at codes that were read.
-fn wait_at_most(codes: Three, out: &mut [u8], at: usize) -> usize
-    ensures { λ r. ⌜ (now (out .exit), r) ≡ times.waitCoded maximum codes (now (out .entry), at) ⌝ }
+// Writes the microseconds that a conversion at three codes typically takes, or the number that refuses them.
+pub fn wait_typical(t: u8, p: u8, h: u8, out: &mut [u8], at: usize) -> usize
+    ensures { λ r. ⌜ (now (out .exit), r) ≡ (now (out .entry), at) ▹ times.wait (waited typical t p h) ⌝ }
 {
-    match codes {
-        Three::Values(t, p, h) => tell_wait(
-            waiting::estimate_wait(
-                Estimate::Maximum,
-                bench_amounts::code(t),
-                bench_amounts::code(p),
-                bench_amounts::code(h),
-            ),
-            out,
-            at,
-        ),
-        Three::Refused(reason) => bench_phrases::refuse(reason, out, at),
-    }
+    write_wait(waiting::estimate_wait(Estimate::Typical, t, p, h), out, at)
 }
 
-// wait typ t p h: answers the typical wait at codes that were read.
-fn wait_typically(codes: Three, out: &mut [u8], at: usize) -> usize
-    ensures { λ r. ⌜ (now (out .exit), r) ≡ times.waitCoded typical codes (now (out .entry), at) ⌝ }
+// Writes the place of the first ready status byte and the polls made, or 17 with the polls made.
+pub fn poll(status: &[u8], allowance: usize, out: &mut [u8], at: usize) -> usize
+    ensures { λ r. ⌜ (now (out .exit), r) ≡ (now (out .entry), at) ▹ times.poll (polled (now (status .entry)) allowance) ⌝ }
 {
-    match codes {
-        Three::Values(t, p, h) => tell_wait(
-            waiting::estimate_wait(
-                Estimate::Typical,
-                bench_amounts::code(t),
-                bench_amounts::code(p),
-                bench_amounts::code(h),
-            ),
-            out,
-            at,
-        ),
-        Three::Refused(reason) => bench_phrases::refuse(reason, out, at),
-    }
+    write_poll(waiting::poll(status, allowance), out, at)
 }
 
-// Writes the microseconds, or the number that refuses them.
-fn tell_wait(wait: Wait, out: &mut [u8], at: usize) -> usize
-    ensures { λ r. ⌜ (now (out .exit), r) ≡ times.waitTold (waitAnswer wait) (now (out .entry), at) ⌝ }
+// Writes microseconds, or the number in their place.
+fn write_wait(wait: Wait, out: &mut [u8], at: usize) -> usize
+    ensures { λ r. ⌜ (now (out .exit), r) ≡ (now (out .entry), at) ▹ times.wait (waitAnswer wait) ⌝ }
 {
     match wait {
-        Wait::Microseconds(n) => {
-            let next = bench_phrases::number(paper::DONE, out, at);
-            bench_phrases::named(b" ", n as u64, out, next)
-        }
-        Wait::Refused(number) => bench_phrases::number(number, out, at),
+        Wait::Microseconds(n) => write_microseconds(n, out, at),
+        Wait::Refused(number) => bench_page::write_decimal(number as u64, out, at),
     }
 }
 
-// poll ALLOWANCE STATUS
-fn poll(line: &[u8], out: &mut [u8], at: usize) -> usize
-    ensures { λ r. ⌜ (now (out .exit), r) ≡ times.poll (now (line .entry)) (now (out .entry), at) ⌝ }
+// Writes microseconds.
+fn write_microseconds(n: u32, out: &mut [u8], at: usize) -> usize
+    ensures { λ r. ⌜ (now (out .exit), r) ≡ (now (out .entry), at) ▹ times.microseconds done n ⌝ }
 {
-    let mut status = bench_amounts::room();
-    let allowance = bench_arguments::decimal(line, 1);
-    let length = bench_arguments::bytes(line, 2, &mut status);
-    poll_read(bench_arguments::both(allowance, length), &status, out, at)
+    bench_row::fill(b"# #", &[paper::DONE as u64, n as u64], out, at)
 }
 
-// Answers a poll of status bytes that were read.
-fn poll_read(numbers: Two, status: &[u8], out: &mut [u8], at: usize) -> usize
-    ensures { λ r. ⌜ (now (out .exit), r) ≡ times.pollRead numbers (now (status .entry)) (now (out .entry), at) ⌝ }
-{
-    match numbers {
-        Two::Values(allowance, length) => tell_poll(
-            waiting::poll(front(status, length), allowance),
-            out,
-            at,
-        ),
-        Two::Refused(reason) => bench_phrases::refuse(reason, out, at),
-    }
-}
-
-// Writes the place and the polls made, or 17 with the polls made.
-fn tell_poll(polled: Polled, out: &mut [u8], at: usize) -> usize
-    ensures { λ r. ⌜ (now (out .exit), r) ≡ times.pollTold (pollAnswer polled) (now (out .entry), at) ⌝ }
+// Writes a place with the polls made, or the polls made.
+fn write_poll(polled: Polled, out: &mut [u8], at: usize) -> usize
+    ensures { λ r. ⌜ (now (out .exit), r) ≡ (now (out .entry), at) ▹ times.poll (pollAnswer polled) ⌝ }
 {
     match polled {
-        Polled::Ready { place, polls } => {
-            let a = bench_phrases::number(paper::DONE, out, at);
-            let b = bench_phrases::named(b" place=", place as u64, out, a);
-            bench_phrases::named(b" polls=", polls as u64, out, b)
-        }
-        Polled::Never { polls } => {
-            let next = bench_phrases::number(paper::NEVER_READY, out, at);
-            bench_phrases::named(b" polls=", polls as u64, out, next)
-        }
+        Polled::Ready { place, polls } => write_ready(place, polls, out, at),
+        Polled::Never { polls } => write_never(polls, out, at),
     }
+}
+
+// Writes a place and the polls made.
+fn write_ready(place: usize, polls: usize, out: &mut [u8], at: usize) -> usize
+    ensures { λ r. ⌜ (now (out .exit), r) ≡ (now (out .entry), at) ▹ times.ready done place polls ⌝ }
+{
+    bench_row::fill(
+        b"# place=# polls=#",
+        &[paper::DONE as u64, place as u64, polls as u64],
+        out,
+        at,
+    )
+}
+
+// Writes the polls made where none was ready.
+fn write_never(polls: usize, out: &mut [u8], at: usize) -> usize
+    ensures { λ r. ⌜ (now (out .exit), r) ≡ (now (out .entry), at) ▹ times.unready neverReady polls ⌝ }
+{
+    bench_row::fill(
+        b"# polls=#",
+        &[paper::NEVER_READY as u64, polls as u64],
+        out,
+        at,
+    )
 }

@@ -1,24 +1,18 @@
--- The cases of the definition.
+-- The front of the filled buffer that is of the length asked.
+use Rattle.bench_lent.specs.Lent.{lentOf}
+use Rattle.bench_lent.proofs.Front.{within-whole, lent-length}
 use borrow.Author.Needs.{needs}
 use Rattle.bench_bus.proofs.decode.Statement.{statement}
 use Rattle.bench_bus.proofs.decode.Tie as tie
 
 returns : tie.Need-returns
-returns c = rw (c .before .before .before .before .before .before .numbers .given .1, c .before .before .decode-with .ensures, c .before .before .before .before .front .ensures)
-
-returns-2 : tie.Need-returns-2
-returns-2 c = rw (c .before .before .before .before .before .numbers2 .given .1, c .before .before .refuse .ensures)
+unfolding lentOf
+returns c =
+    let n = c .before .before .before .before .before .before in
+    rw (c .before .before .before .decode-into .ensures, n .within .ensures .0, n .before .filled .ensures .0)
 
 pub decode-spec : {M : Type 1} → statement M
-decode-spec =
-    tie.close
-    (tie.spec
-    (λ c. search needs)
-    (λ c κs. tt)
-    (λ c κs. tt)
-    (λ c. search needs)
-    (λ c κs. tt)
-    (λ c. search needs)
-    returns
-    (λ c. search needs)
-    returns-2)
+decode-spec = tie.close (tie.spec (λ c κs. tt) (λ c κs. tt)
+    (λ c. within-whole _ (c .before .filled .result) (c .within .ensures .1) (c .before .filled .ensures .1))
+    (λ c. lent-length _ (c .before .before .filled .result) (c .before .within .ensures .1) (c .before .before .filled .ensures .1))
+    (λ c κs. tt) (λ c. search needs) returns)

@@ -8,7 +8,7 @@ use Rattle.bench_page.specs.Page.{written}
 use mir.Facts.{toZ-ofZ}
 use mir.Syntax.{w64}
 use Rattle.bench_page.specs.Digits.{sign, signed, decimal}
-use Rattle.bench_page.proofs.Laws.{written-append}
+use Rattle.bench_page.proofs.Laws.{joined}
 use Rattle.bench_page.proofs.write_signed.Statement.{statement}
 use Rattle.bench_page.proofs.write_signed.Tie as tie
 
@@ -16,7 +16,7 @@ with-sign :
     (z w : ℤ) (n : ℕ) (p : List ℕ × ℕ) {q r : List ℕ × ℕ} → w ≡ z → n ≡ natAbs w → q ≡ written (sign z) p → r ≡ written (decimal n) q
     → r ≡ written (signed z) p
 unfolding signed
-with-sign z w n p e f g h = rw (written-append (sign z) (decimal (natAbs z)) p, ← g) (rw (f, e) at h)
+with-sign z w n p e f g h = joined _ _ _ g (rw (f, e) at h)
 
 returns : tie.Need-returns
 returns c =

@@ -1,0 +1,11 @@
+-- The form with its numbers.
+use borrow.Author.Needs.{needs}
+use mathlib.Core.Path.{refl}
+use Rattle.bench_bus.proofs.write_address.Statement.{statement}
+use Rattle.bench_bus.proofs.write_address.Tie as tie
+
+returns : tie.Need-returns
+returns c = c .before .before .fill .ensures
+
+pub write-address-spec : {M : Type 1} → statement M
+write-address-spec = tie.close (tie.spec (λ c. refl) (λ c. search needs) (λ c. refl) (λ c κs. tt) (λ c. search needs) returns)

@@ -1,0 +1,2 @@
+-- Laws of a buffer's front, for whoever lends one.
+pub mod Front

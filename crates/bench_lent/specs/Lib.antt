@@ -1,0 +1,2 @@
+-- The buffers that the bench lends.
+pub mod Lent

@@ -1,0 +1,2 @@
+-- Laws that both loops cite.
+pub mod Laws
