@@ -1,4 +1,2 @@
--- Each answer against the maker's formula with no check: the steps listed, the theorems in parts, and the theorems.
-pub mod Listed
-pub mod Against
+-- Each answer against the maker's formula with no check.
 pub mod Exact

@@ -3,7 +3,8 @@
 use Prim.Native.Nat.{ℕ, min}
 use lib.IntN.{ℤ, pos, negsuc, _+ℤ_, _-ℤ_, _*ℤ_}
 use Rattle.steps.specs.declared.Signed.the-variants.{Bits32}
-use Rattle.steps.specs.Work.{Work, given, num, share, run, _+_, _-_, _*_, _<<_, _>>_, _<<ℤ_, _>>ℤ_}
+use Rattle.steps.specs.Work.{Work, given, num, share, run, _+_, _-_, _*_, _<<_, _>>_}
+use Rattle.steps.specs.Needs.{_<<ℤ_, _>>ℤ_}
 use Rattle.calibration.specs.declared.HumidityWords.{HumidityWords}
 use Rattle.formula.specs.declared.ChannelAnswer.{ChannelAnswer}
 use Rattle.formula.specs.Answers.{answered}

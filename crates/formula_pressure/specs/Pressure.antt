@@ -6,7 +6,8 @@ use lib.IntN.{ℤ, pos, negsuc, _+ℤ_, _-ℤ_, _*ℤ_}
 use Rattle.paper.specs.Numbers as no
 use Rattle.steps.specs.declared.Signed.the-variants.{Bits64}
 use Rattle.steps.specs.Step.{isNonzero}
-use Rattle.steps.specs.Work.{Work, given, num, share, test, run, _+_, _-_, _*_, _/_, _<<_, _>>_, _/ℤ_, _<<ℤ_, _>>ℤ_}
+use Rattle.steps.specs.Work.{Work, given, num, share, test, run, _+_, _-_, _*_, _/_, _<<_, _>>_}
+use Rattle.steps.specs.Needs.{_/ℤ_, _<<ℤ_, _>>ℤ_}
 use Rattle.calibration.specs.declared.PressureWords.{PressureWords}
 use Rattle.formula.specs.declared.ChannelAnswer.{ChannelAnswer}
 use Rattle.formula.specs.Answers.{answered}

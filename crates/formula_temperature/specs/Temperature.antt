@@ -4,7 +4,8 @@ use lib.IntN.{ℤ, pos, _+ℤ_, _-ℤ_, _*ℤ_}
 use Rattle.steps.specs.declared.Signed.the-variants.{Bits32}
 use Rattle.steps.specs.declared.Num.{Num}
 use Rattle.steps.specs.declared.Num.the-variants.{Value, Broke}
-use Rattle.steps.specs.Work.{Work, given, num, share, run, _+_, _-_, _*_, _<<_, _>>_, _<<ℤ_, _>>ℤ_}
+use Rattle.steps.specs.Work.{Work, given, num, share, run, _+_, _-_, _*_, _<<_, _>>_}
+use Rattle.steps.specs.Needs.{_<<ℤ_, _>>ℤ_}
 use Rattle.calibration.specs.declared.TemperatureWords.{TemperatureWords}
 use Rattle.formula.specs.declared.TemperatureAnswer.{TemperatureAnswer}
 use Rattle.formula.specs.declared.TemperatureAnswer.the-variants.{Known, Missing}

@@ -9,7 +9,7 @@ use borrow.Author.Tests.{ltb-true}
 use Rattle.steps.specs.declared.Signed.the-variants.{Bits32}
 use Rattle.steps.specs.declared.Num.the-variants.{Value}
 use Rattle.steps.specs.Work.{Work, run}
-use Rattle.steps.specs.Held.{EndsInStep, held}
+use Rattle.steps.proofs.Held.{EndsInStep, held}
 use Rattle.formula_temperature.specs.Temperature.{fineLines, degreesLine, temperatureOf}
 use Rattle.formula_temperature.proofs.checked.temperature.Statement.{statement}
 use Rattle.formula_temperature.proofs.checked.temperature.Tie as tie

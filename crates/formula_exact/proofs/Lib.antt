@@ -1,0 +1,2 @@
+-- Why what Exact.antt states holds.
+pub mod Exact

@@ -1,0 +1,2 @@
+-- The table of needs.
+pub mod Needs
