@@ -7,6 +7,7 @@ pub mod calibration;
 pub mod command;
 pub mod compensation;
 pub mod data;
+pub mod edges;
 pub mod generate;
 pub mod history;
 pub mod ledger;

@@ -1,7 +1,7 @@
 //! The second program's commands: answer, generate, generate-comp, generate-events, sheet.
 
 use second::generate::{Generator, Kind};
-use second::{sheet, streams};
+use second::{edges, sheet, streams};
 use std::io::{self, BufWriter, ErrorKind, Write};
 use std::process::ExitCode;
 
@@ -10,7 +10,7 @@ second answer < FILE                  answers the bench's lines
 second generate COUNT SEED            writes COUNT lines of every command
 second generate-comp COUNT SEED       writes COUNT compensation readings
 second generate-events COUNT SEED     writes COUNT machine events and ledgers
-second sheet                          writes K1 to K14 and other figures
+second sheet                          writes K1 to K14, other figures and the edges
 ";
 
 /// Answers all lines of standard input on standard output.
@@ -30,11 +30,11 @@ fn generate(kind: Kind, count: u64, seed: u64) -> io::Result<()> {
     output.flush()
 }
 
-/// Writes the lines of the sheet to standard output.
+/// Writes the lines of the sheet and of the edges to standard output.
 /// Their order is fixed.
 fn sheet() -> io::Result<()> {
     let mut output = BufWriter::new(io::stdout().lock());
-    for line in sheet::lines() {
+    for line in sheet::lines().into_iter().chain(edges::lines()) {
         writeln!(output, "{line}")?;
     }
     output.flush()
