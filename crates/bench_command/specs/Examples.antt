@@ -1,33 +1,94 @@
--- Lines read, by the definitions: each reason, and that the words decide in their order.
+-- Lines read, by the definitions: each kind of command, each reason, and that the words decide in their order.
+use mathlib.Core.List.{[], _∷_}
 use mathlib.Core.Path.{_≡_, refl}
 use Rattle.bench_page.specs.Page.{letters}
-use Rattle.bench_numbers.specs.declared.Reason.the-variants.{UnknownWord, WrongNumberOfWords}
+use Rattle.bench_numbers.specs.declared.Reason.the-variants.{UnknownWord, WrongNumberOfWords, NotANumber, OddHex, TooLong}
+use Rattle.bench_numbers.specs.Words.{word}
+use Rattle.bench_numbers.specs.Reading as reading
+use Rattle.bus.specs.declared.Bus.the-variants.{I2c, Spi}
+use Rattle.bus.specs.declared.Device.the-variants.{At, Selected}
+use Rattle.machine.specs.declared.Event.the-variants as events
 use Rattle.bench_command.specs.declared.Asked.the-variants.{Nothing, Command, Refused}
 use Rattle.bench_command.specs.declared.Command.the-variants as the
-use Rattle.bench_command.specs.declared.Time.the-variants.{WaitMaximum}
-use Rattle.bench_words.specs.Words as words
-use Rattle.bench_command.specs.Commands as known
+use Rattle.bench_command.specs.Words as words
+use Rattle.bench_command.specs.Arguments as arguments
+use Rattle.bench_command.specs.Table as table
+use Rattle.bench_command.specs.Commands.{asked}
 
-pub wait : known.asked (letters "wait max 5 5 5") ≡ Command (the.Time WaitMaximum)
-unfolding known.asked known.command known.verb known.wait words.count words.word words.afterSpaces words.upToSpace words.fromSpace words.is words.agrees
-wait = refl
+-- four bytes are lent, and nothing is written after the last byte read
+pub record Commands : Type 0 where
+  pub cal : asked (letters "cal 0102 03") (9 ∷ 9 ∷ 9 ∷ 9 ∷ []) ≡ (Command (the.Cal 2 1), 1 ∷ 2 ∷ 3 ∷ 9 ∷ [])
+  pub comp : asked (letters "comp 01 - 02 1 7 256") (9 ∷ 9 ∷ 9 ∷ 9 ∷ []) ≡ (Command (the.Comp 1 0 1 1 7 255), 1 ∷ 2 ∷ 9 ∷ 9 ∷ [])
+  pub wait : asked (letters "wait max 5 4 3") [] ≡ (Command (the.WaitMaximum 5 4 3), [])
+  pub wait-typical : asked (letters "wait typ 1 0 0") [] ≡ (Command (the.WaitTypical 1 0 0), [])
+  pub poll : asked (letters "poll 2 080900") (9 ∷ 9 ∷ 9 ∷ 9 ∷ []) ≡ (Command (the.Poll 2 3), 8 ∷ 9 ∷ 0 ∷ 9 ∷ [])
+  pub i2c-write : asked (letters "i2c write 76 F427 3") (9 ∷ 9 ∷ 9 ∷ 9 ∷ []) ≡ (Command (the.BusWrite (At 0x76) 2 3), 0xF4 ∷ 0x27 ∷ 9 ∷ 9 ∷ [])
+  pub i2c-decode : asked (letters "i2c decode ECF427 4") (9 ∷ 9 ∷ 9 ∷ 9 ∷ []) ≡ (Command (the.BusDecode I2c 3 4), 0xEC ∷ 0xF4 ∷ 0x27 ∷ 9 ∷ [])
+  pub i2c-read : asked (letters "i2c read 76 f7 3") [] ≡ (Command (the.BusRead (At 0x76) 0xF7 3), [])
+  pub spi-write : asked (letters "spi write F427 2") (9 ∷ 9 ∷ 9 ∷ 9 ∷ []) ≡ (Command (the.BusWrite Selected 2 2), 0xF4 ∷ 0x27 ∷ 9 ∷ 9 ∷ [])
+  pub spi-decode : asked (letters "spi decode 7427 2") (9 ∷ 9 ∷ 9 ∷ 9 ∷ []) ≡ (Command (the.BusDecode Spi 2 2), 0x74 ∷ 0x27 ∷ 9 ∷ 9 ∷ [])
+  pub spi-read : asked (letters "spi read F7 256") [] ≡ (Command (the.BusRead Selected 0xF7 256), [])
+  pub fresh : asked (letters "fresh") [] ≡ (Command (the.Fresh 0), [])
+  pub fresh-after : asked (letters "fresh 4294967295") [] ≡ (Command (the.Fresh 4294967295), [])
+  pub write : asked (letters "write F4 27") [] ≡ (Command (the.Event (events.Write 0xF4 0x27)), [])
+  pub finish : asked (letters "finish 519888 415148 0") [] ≡ (Command (the.Event (events.Finish 519888 415148 0)), [])
+  pub close : asked (letters "close 8") [] ≡ (Command (the.Event (events.Close 8)), [])
+  pub ledger : asked (letters "ledger") [] ≡ (Command the.Ledger, [])
 
-pub second-missing : known.asked (letters "wait") ≡ Refused WrongNumberOfWords
-unfolding known.asked known.command known.verb known.wait words.count words.word words.afterSpaces words.upToSpace words.fromSpace words.is words.agrees
-second-missing = refl
+pub commands-read : Commands
+unfolding asked table.tried table.commands table.isOf table.fits table.askedBy words.count arguments.isArgument arguments.start arguments.stepped arguments.walked word reading.argument reading.number reading.octet reading.pair reading.secondDigit reading.decimal reading.readOn reading.bytes reading.wordLaid reading.isDash reading.pairsLaid reading.digitValue reading.letterValue
+commands-read =
+    record {
+      cal = refl;
+      comp = refl;
+      wait = refl;
+      wait-typical = refl;
+      poll = refl;
+      i2c-write = refl;
+      i2c-decode = refl;
+      i2c-read = refl;
+      spi-write = refl;
+      spi-decode = refl;
+      spi-read = refl;
+      fresh = refl;
+      fresh-after = refl;
+      write = refl;
+      finish = refl;
+      close = refl;
+      ledger = refl;
+    }
 
-pub second-unknown : known.asked (letters "wait  max 5 5 5") ≡ Refused UnknownWord
-unfolding known.asked known.command known.verb known.wait words.count words.word words.afterSpaces words.upToSpace words.fromSpace words.is words.agrees
-second-unknown = refl
+pub record Refusals : Type 0 where
+  pub empty : asked (letters "") [] ≡ (Nothing, [])
+  pub spaces-alone : asked (letters "  ") [] ≡ (Refused UnknownWord, [])
+  pub longer-word : asked (letters "freshen") [] ≡ (Refused UnknownWord, [])
+  pub shorter-word : asked (letters "fres 7") [] ≡ (Refused UnknownWord, [])
+  pub second-missing : asked (letters "wait") [] ≡ (Refused WrongNumberOfWords, [])
+  pub second-unknown : asked (letters "wait  max 5 5 5") [] ≡ (Refused UnknownWord, [])
+  pub trailing-space : asked (letters "copied ") [] ≡ (Refused WrongNumberOfWords, [])
+  pub one-too-many : asked (letters "fresh 1 2") [] ≡ (Refused WrongNumberOfWords, [])
+  pub words-before-values : asked (letters "write G4") [] ≡ (Refused WrongNumberOfWords, [])
+  pub no-characters : asked (letters "poll  08") [] ≡ (Refused NotANumber, [])
+  -- the first of several decides, and what was read before it stays laid
+  pub first-decides : asked (letters "i2c write 7G 080 257") [] ≡ (Refused NotANumber, [])
+  pub odd-digits : asked (letters "spi write F427F 257") (9 ∷ 9 ∷ 9 ∷ []) ≡ (Refused OddHex, 0xF4 ∷ 0x27 ∷ 9 ∷ [])
+  pub long-buffer : asked (letters "spi write F427 257") (9 ∷ 9 ∷ 9 ∷ []) ≡ (Refused TooLong, 0xF4 ∷ 0x27 ∷ 9 ∷ [])
 
-pub trailing-space : known.asked (letters "copied ") ≡ Refused WrongNumberOfWords
-unfolding known.asked known.command known.verb known.message known.event words.count words.word words.afterSpaces words.upToSpace words.fromSpace words.is words.agrees
-trailing-space = refl
-
-pub spaces-alone : known.asked (letters "  ") ≡ Refused UnknownWord
-unfolding known.asked known.command known.verb known.message known.event known.change known.burst words.count words.word words.afterSpaces words.upToSpace words.fromSpace words.is words.agrees
-spaces-alone = refl
-
-pub empty : known.asked (letters "") ≡ Nothing
-unfolding known.asked
-empty = refl
+pub refusals-read : Refusals
+unfolding asked table.tried table.commands table.isOf table.fits table.askedBy words.count arguments.isArgument arguments.start arguments.stepped arguments.walked word reading.argument reading.number reading.octet reading.pair reading.secondDigit reading.decimal reading.readOn reading.bytes reading.wordLaid reading.isDash reading.pairsLaid reading.digitValue reading.letterValue
+refusals-read =
+    record {
+      empty = refl;
+      spaces-alone = refl;
+      longer-word = refl;
+      shorter-word = refl;
+      second-missing = refl;
+      second-unknown = refl;
+      trailing-space = refl;
+      one-too-many = refl;
+      words-before-values = refl;
+      no-characters = refl;
+      first-decides = refl;
+      odd-digits = refl;
+      long-buffer = refl;
+    }

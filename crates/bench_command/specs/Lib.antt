@@ -1,3 +1,6 @@
--- The command that the words of a line name.
+-- Lines read into commands.
+pub mod Words
+pub mod Table
+pub mod Arguments
 pub mod Commands
 pub mod Examples

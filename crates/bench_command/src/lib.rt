@@ -1,70 +1,53 @@
-// Lines read: which command a line asks for.
+// A line read, once, into the command that it asks for and the command's values.
 ghost use mathlib.Core.Path.{_≡_};
 ghost use Rattle.bench_command.specs.Commands as known;
 use bench_numbers::Reason;
+use bus::Bus;
+use bus::Device;
+use machine::Event;
 
-mod verbs;
+mod arguments;
+mod commands;
+mod rows;
+mod table;
+mod text;
 
-// Every command of the bench, by who answers it.
+// Every command of the bench with its values. Bytes are laid one after another where they are lent, and the command has their lengths.
 pub enum Command {
-    Reading(Reading),
-    Time(Time),
-    Message(Message),
-    Happening(Happening),
-}
-
-// What a chip's bytes say.
-pub enum Reading {
-    Cal,
-    Comp,
-}
-
-// How long to wait, and whether it was long enough.
-pub enum Time {
-    WaitMaximum,
-    WaitTypical,
-    Poll,
-}
-
-// Bytes on a bus.
-pub enum Message {
-    I2cWrite,
-    I2cDecode,
-    I2cRead,
-    SpiWrite,
-    SpiDecode,
-    SpiRead,
-}
-
-// What befalls the machine, and its ledger.
-pub enum Happening {
-    Fresh,
-    FreshAfter,
-    Power,
-    Copied,
-    Wake,
-    Write,
-    Finish,
-    Open,
-    Byte,
-    Close,
+    // The lengths of the two blocks.
+    Cal(usize, usize),
+    // The lengths of the two blocks and of the data, and the three codes.
+    Comp(usize, usize, usize, u8, u8, u8),
+    WaitMaximum(u8, u8, u8),
+    WaitTypical(u8, u8, u8),
+    // The allowance, and the length of the status.
+    Poll(usize, usize),
+    // The device, the length of the pairs, and that of the lent buffer.
+    BusWrite(Device, usize, usize),
+    // The bus, the length of the message, and that of the lent buffer.
+    BusDecode(Bus, usize, usize),
+    // The device, the register, and the length of the lent buffer.
+    BusRead(Device, u8, usize),
+    // The number of conversions that came before.
+    Fresh(u32),
+    Event(Event),
     Ledger,
 }
 
-// What a line asks: nothing where it is empty, a command with the right number of words, or nothing that can be answered.
+// What a line asks: nothing where it is empty, a command, or nothing that can be answered.
 pub enum Asked {
     Nothing,
-    Command(Command),
     Refused(Reason),
+    Command(Command),
 }
 
 // The longest line.
 pub const LONGEST_LINE: usize = 4096;
 
-// What a line asks.
-// A line that is too long is refused first, then an unknown word, then a wrong number of words.
-pub fn read(line: &[u8]) -> Asked
-    ensures { λ r. ⌜ r ≡ known.asked (now (line .entry)) ⌝ }
+// What a line asks. The bytes among its words are laid where they are lent, as far as the line is read.
+// A line that is too long is refused first, then an unknown word, then a wrong number of words, and then the arguments from left to right.
+pub fn read(line: &[u8], lent: &mut [u8]) -> Asked
+    ensures { λ r. ⌜ (r, now (lent .exit)) ≡ known.asked (now (line .entry)) (now (lent .entry)) ⌝ }
 {
     if LONGEST_LINE < line.len() {
         return Asked::Refused(Reason::TooLong);
@@ -72,6 +55,31 @@ pub fn read(line: &[u8]) -> Asked
     if line.len() == 0 {
         return Asked::Nothing;
     }
-    let count = bench_words::count(line);
-    verbs::counted(verbs::command(line, count), count)
+    // The commands, in the order of their numbers: B stands for bytes, C for a code, D for a decimal, L for a buffer's length, P for a pair.
+    table::find(
+        b"cal B B;\
+        comp B B B C C C;\
+        wait max C C C;\
+        wait typ C C C;\
+        poll D B;\
+        i2c write P B L;\
+        i2c decode B L;\
+        i2c read P P L;\
+        spi write B L;\
+        spi decode B L;\
+        spi read P L;\
+        fresh;\
+        fresh D;\
+        power;\
+        copied;\
+        write P P;\
+        finish D D D;\
+        wake;\
+        open P;\
+        byte;\
+        close L;\
+        ledger;",
+        line,
+        lent,
+    )
 }

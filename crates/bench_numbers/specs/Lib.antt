@@ -1,3 +1,4 @@
--- Digits read.
+-- Arguments of a line read.
+pub mod Words
 pub mod Reading
 pub mod Examples

@@ -1,0 +1,3 @@
+-- What the proofs cite of the table and its rows.
+pub mod Splitting
+pub mod Trying

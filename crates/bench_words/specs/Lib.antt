@@ -1,3 +1,0 @@
--- The words of a line.
-pub mod Words
-pub mod Examples
