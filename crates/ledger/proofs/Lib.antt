@@ -10,6 +10,7 @@ pub mod Given
 pub mod Laid
 pub mod Entries
 pub mod Control
+pub mod Tidy
 pub mod Kept
 pub mod Numbers
 pub mod Registers
