@@ -14,6 +14,7 @@ pub mod Tidy
 pub mod Kept
 pub mod Numbers
 pub mod Registers
+pub mod Outcomes
 pub mod Theorems
 pub mod Turn
 pub mod Alive
