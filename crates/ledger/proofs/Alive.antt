@@ -1,14 +1,15 @@
 -- A dead machine does not pass: from every state that a list of events leads to, the next conversion is run truly.
 use Prim.Native.Nat.{ℕ, _+_, _%_, _≤_, _<_}
 use mathlib.Core.Path.{_≡_, refl, sym, ap, _∙_, subst}
-use mathlib.Core.Bool.{Bool, true, false}
+use mathlib.Core.Bool.{Bool, true, false, true≢false}
 use mathlib.Core.List.{List, [], _∷_, _++_}
 use native.Mathlib.Omega.{arith}
 use Rattle.paper.specs.Registers as reg
 use Rattle.machine.specs.declared.Phase.{Phase}
 use Rattle.machine.specs.declared.Phase.the-variants.{Sleep, Standby}
 use Rattle.machine.specs.declared.Held.the-variants.{Nothing}
-use Rattle.machine.specs.declared.Burst.the-variants.{Closed}
+use Rattle.machine.specs.declared.Burst.{Burst}
+use Rattle.machine.specs.declared.Burst.the-variants.{Closed, Open}
 use Rattle.machine.specs.declared.Codes.{Codes}
 use Rattle.machine.specs.declared.Device.{Device}
 use Rattle.machine.specs.declared.Ledger.{Ledger}
@@ -18,12 +19,14 @@ use Rattle.machine.specs.Fields.{withDevice, withBurst}
 use Rattle.machine.specs.State.{fresh, noConversion, runs, isOpen, isThere, isUnread}
 use Rattle.machine.specs.Counts.{begunIf, deliveredIf, overwrittenIf}
 use Rattle.machine.specs.Control.{phaseAfter}
-use Rattle.machine.specs.Events.{showing, delivering, waitingShown, ended, wholeClosing, awake, closed}
+use Rattle.machine.specs.Events.{showing, delivering, waitingShown, ended, wholeClosing, awake, byteGiven, closed}
 use Rattle.machine.specs.declared.Event.{Event}
 use Rattle.machine.specs.declared.Event.the-variants.{Power, Copied}
-use Rattle.machine.specs.Event.{next, after}
+use Rattle.machine.specs.Event.{next, answer, after}
+use Rattle.ledger.specs.Happening.{Happening}
 use Rattle.ledger.specs.Device.{deviceIn}
-use Rattle.ledger.specs.Told.{history}
+use Rattle.ledger.specs.History.{begunIn, openIn}
+use Rattle.ledger.specs.Added.{added, addedAfter, history}
 use Rattle.ledger.specs.Alive.{Turn, Fits, IsForced, codesOf, byWrite, byWake, measured, Begins, Delivers, MayBeginByWrite, WriteRunsTruly, MayBeginByWake, WakeRunsTruly}
 use Rattle.ledger.specs.Alive.{MayWriteInStandby, LatchRunsTruly}
 use Rattle.ledger.proofs.Book.{nonzero-pos}
@@ -83,6 +86,26 @@ module _ (es : List Event) where
   abbrev now : Machine
   now = after fresh es
 
+  abbrev h : List Happening
+  h = history es
+
+  -- what the history says of the machine
+  pub phase-now : (p : Phase) → deviceIn h .phase ≡ p → now .device .phase ≡ p
+  phase-now p e = ap (λ (d : Device). d .phase) (kept es .device-is) ∙ e
+
+  pub copying-now : deviceIn h .copying ≡ false → now .device .copying ≡ false
+  copying-now e = ap (λ (d : Device). d .copying) (kept es .device-is) ∙ e
+
+  pub closed-now : openIn h ≡ false → now .burst ≡ Closed
+  closed-now o = at (now .burst) (kept es .right .open-is ∙ o)
+    where
+      at : (b : Burst) → isOpen b ≡ false → b ≡ Closed
+      at Closed e = refl
+      at (Open first next) e = absurd (true≢false e)
+
+  pub room-now : begunIn h < reg.mostBegun → now .ledger .begun < reg.mostBegun
+  room-now l = omega (arith, kept es .right .begun-is)
+
   -- where no burst is open none waits
   pub none-waiting : now .burst ≡ Closed → now .waiting ≡ noConversion
   none-waiting b = let k = kept es in k .tidy .none-waits (k .right .waits-is ∙ none-waits (history es) (sym (k .right .open-is) ∙ ap isOpen b))
@@ -115,43 +138,49 @@ module _ (es : List Event) where
       }
 
   -- forced or normal, by a write in sleep; forced, by a write in standby
-  pub write-runs-truly : (t : Turn) → Fits t → MayBeginByWrite now t → WriteRunsTruly now t
-  write-runs-truly t f a = writes Sleep refl t f (mode-runs Sleep (t .f4) (a .asks) (λ _. refl)) (a .sleeps) (a .not-copying) (a .none-open) (a .has-room)
+  pub write-runs-truly : (t : Turn) → Fits t → MayBeginByWrite h t → WriteRunsTruly now t
+  write-runs-truly t f a = writes Sleep refl t f (mode-runs Sleep (t .f4) (a .asks) (λ _. refl))
+      (phase-now Sleep (a .sleeps)) (copying-now (a .not-copying)) (closed-now (a .none-open)) (room-now (a .has-room))
 
-  pub standby-runs-truly : (t : Turn) → Fits t → IsForced t → MayWriteInStandby now → WriteRunsTruly now t
+  pub standby-runs-truly : (t : Turn) → Fits t → IsForced t → MayWriteInStandby h → WriteRunsTruly now t
   standby-runs-truly t f i a =
       let w = a .may-wake in
-      writes Standby refl t f (mode-runs Standby (t .f4) (i .not-sleep) (λ e. absurd (i .not-normal e))) (w .stands-by) (a .not-copying) (w .none-open) (w .has-room)
+      writes Standby refl t f (mode-runs Standby (t .f4) (i .not-sleep) (λ e. absurd (i .not-normal e)))
+      (phase-now Standby (w .stands-by)) (copying-now (a .not-copying)) (closed-now (w .none-open)) (room-now (w .has-room))
 
   -- normal, by a wake, with the codes that the history has latched
-  pub wake-runs-truly : (t : Turn) → Fits t → MayBeginByWake now → WakeRunsTruly now (deviceIn (history es) .codes) t
+  pub wake-runs-truly : (t : Turn) → Fits t → MayBeginByWake h → WakeRunsTruly now (deviceIn h .codes) t
   wake-runs-truly t f a =
-      let l = a .has-room in
-      let c : Codes = deviceIn (history es) .codes in
+      let l = room-now (a .has-room) in
+      let y = phase-now Standby (a .stands-by) in
+      let o = closed-now (a .none-open) in
+      let c : Codes = deviceIn h .codes in
       let c-is : now .device .codes ≡ c = ap (λ (d : Device). d .codes) (kept es .device-is) in
-      let e : after now byWake ≡ awake now = wake-begins now (a .stands-by) l in
+      let e : after now byWake ≡ awake now = wake-begins now y l in
       record {
         begins = subst (λ (k : Machine). Begins now k c) (sym e) (record { begun-is = begun-more l; runs-now = refl; codes-are = c-is });
         delivers = subst (λ (k : Machine). let x = closed (after k (measured t)) (t .lent) in Delivers (now .ledger .begun + 1) (now .ledger .delivered + 1) c t (x .0) (x .1))
-            (sym e) (turns t (awake now) c f refl (none-held (ap runs (a .stands-by))) (a .none-open) (none-waiting (a .none-open)) c-is (begun-more l) refl l);
+            (sym e) (turns t (awake now) c f refl (none-held (ap runs y)) o (none-waiting o) c-is (begun-more l) refl l);
       }
 
   -- normal, by a wake after a write in standby
-  pub latch-runs-truly : (t : Turn) → Fits t → t .f4 % 4 ≡ 3 → MayWriteInStandby now → LatchRunsTruly now t
+  pub latch-runs-truly : (t : Turn) → Fits t → t .f4 % 4 ≡ 3 → MayWriteInStandby h → LatchRunsTruly now t
   latch-runs-truly t f i a =
       let w = a .may-wake in
-      let l = w .has-room in
+      let l = room-now (w .has-room) in
+      let y = phase-now Standby (w .stands-by) in
+      let o = closed-now (w .none-open) in
       let s : phaseAfter Standby (t .f4) ≡ Standby = rw i in
       let k : Machine = withDevice (controlledBy t (now .device)) now in
-      let k-is : after now (byWrite t) ≡ k = write-latches now t Standby refl (ap runs s) (w .stands-by) (a .not-copying) (w .none-open) in
-      let stands-by : k .device .phase ≡ Standby = rw (w .stands-by) s in
+      let k-is : after now (byWrite t) ≡ k = write-latches now t Standby refl (ap runs s) y (copying-now (a .not-copying)) o in
+      let stands-by : k .device .phase ≡ Standby = rw y s in
       let e : after now (byWrite t ++ byWake) ≡ awake k = ap (λ (k : Machine). after k byWake) k-is ∙ wake-begins k stands-by l in
       record {
         stands-by = ap (λ (k : Machine). k .device .phase) k-is ∙ stands-by;
         none-begins = ap (λ (k : Machine). k .ledger) k-is;
         begins = subst (λ (k : Machine). Begins now k (codesOf t)) (sym e) (record { begun-is = begun-more l; runs-now = refl; codes-are = refl });
         delivers = subst (λ (k : Machine). let x = closed (after k (measured t)) (t .lent) in Delivers (now .ledger .begun + 1) (now .ledger .delivered + 1) (codesOf t) t (x .0) (x .1))
-            (sym e) (turns t (awake k) (codesOf t) f refl refl (w .none-open) (none-waiting (w .none-open)) refl (begun-more l) refl l);
+            (sym e) (turns t (awake k) (codesOf t) f refl refl o (none-waiting o) refl (begun-more l) refl l);
       }
 
 -- and no state is without a way on: after power and the end of copying a write begins the next
@@ -159,9 +188,13 @@ pub after-append : (m : Machine) (es fs : List Event) → after m (es ++ fs) ≡
 after-append m [] fs = refl
 after-append m (e ∷ es) fs = after-append (next m e) es fs
 
-pub power-leads-on : (es : List Event) (t : Turn) → Fits t → (t .f4 % 4 ≡ 0 → ⊥) → after fresh es .ledger .begun < reg.mostBegun
+added-append : (m : Machine) (h : List Happening) (es fs : List Event) → addedAfter m h (es ++ fs) ≡ addedAfter (after m es) (addedAfter m h es) fs
+added-append m h [] fs = refl
+added-append m h (e ∷ es) fs = added-append (next m e) (added (answer m e) h e (byteGiven m .value) ++ h) es fs
+
+pub power-leads-on : (es : List Event) (t : Turn) → Fits t → (t .f4 % 4 ≡ 0 → ⊥) → begunIn (history es) < reg.mostBegun
     → WriteRunsTruly (after fresh (es ++ Power ∷ Copied ∷ [])) t
 power-leads-on es t f z l =
     write-runs-truly (es ++ Power ∷ Copied ∷ []) t f
-    (subst (λ (m : Machine). MayBeginByWrite m t) (sym (after-append fresh es (Power ∷ Copied ∷ [])))
+    (subst (λ (h : List Happening). MayBeginByWrite h t) (sym (added-append fresh [] es (Power ∷ Copied ∷ [])))
     (record { sleeps = refl; not-copying = refl; none-open = refl; has-room = l; asks = z }))

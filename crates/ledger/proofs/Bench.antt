@@ -18,7 +18,7 @@ use Rattle.ledger.specs.Happening as hap
 use Rattle.ledger.specs.Happening.{tookF4, Happening, began, finished, lost, opened, gave, changed}
 use Rattle.ledger.specs.Bytes.{dataBytes}
 use Rattle.ledger.specs.History.{givenIn, wholeIn, delivered, overwritten, abandoned, standing}
-use Rattle.ledger.specs.Told.{history}
+use Rattle.ledger.specs.Added.{history}
 
 abbrev three : List Event
 three = Byte ∷ Byte ∷ Byte ∷ []

@@ -1,5 +1,5 @@
 -- An F4 that is held while a conversion runs takes effect when that one finishes: it begins the next, or sets the codes of the next wake.
-use Prim.Native.Nat.{ℕ, _+_, _%_}
+use Prim.Native.Nat.{ℕ, _+_, _%_, _<_}
 use mathlib.Core.Path.{_≡_, refl, sym, ap, _∙_, subst}
 use mathlib.Core.Bool.{Bool, true, false, not}
 use mathlib.Core.List.{List, [], _∷_, _++_}
@@ -7,7 +7,7 @@ use native.Mathlib.Omega.{arith}
 use Rattle.laws.specs.Choices.{pick}
 use Rattle.paper.specs.Numbers.{done, burstIsOpen, addressNotAllowed}
 use Rattle.paper.specs.Registers as reg
-use Rattle.machine.specs.declared.Phase.the-variants.{Standby}
+use Rattle.machine.specs.declared.Phase.the-variants.{Forced, Normal, Standby}
 use Rattle.machine.specs.declared.Held.the-variants.{Nothing}
 use Rattle.machine.specs.declared.Burst.the-variants as burst
 use Rattle.machine.specs.declared.Device.{Device}
@@ -22,36 +22,46 @@ use Rattle.machine.specs.Events.{answered, rested, showing, keeping, awake, clo
 use Rattle.machine.specs.declared.Event.{Event}
 use Rattle.machine.specs.declared.Event.the-variants.{Open}
 use Rattle.machine.specs.Event.{next, after}
+use Rattle.ledger.specs.Device.{isConverting}
+use Rattle.ledger.specs.Added.{history}
 use Rattle.ledger.specs.Alive.{Turn, Fits, codesOf, byWrite, byWake, finish, measured, Begins, Delivers}
 use Rattle.ledger.specs.Alive.{MayHold, BeginsHeld, LatchesHeld, IsHeld, HeldRunsTruly, HeldLatchRunsTruly}
 use Rattle.ledger.proofs.Tests.{passed}
-use Rattle.ledger.proofs.Kept.{overwritten-begun}
+use Rattle.ledger.proofs.Tidy.{overwritten-begun, landed-begun}
 use Rattle.ledger.proofs.Turn.{mode-runs, holding, write-holds, wake-begins, landed-with, done-with, lands-shown, finish-takes}
-use Rattle.ledger.proofs.Alive.{none-waiting, turns}
+use Rattle.ledger.proofs.Control.{runs-is}
+use Rattle.ledger.proofs.Kept.{kept}
+use Rattle.ledger.proofs.Alive.{phase-now, copying-now, closed-now, room-now, none-waiting, turns}
 
 overwritten-delivered : (b : Bool) (l : Ledger) → overwrittenIf b l .delivered ≡ l .delivered
 overwritten-delivered true l = refl
 overwritten-delivered false l = refl
 
-lands-begun : (m : Machine) (s : Turn) → landed-with m s .ledger .begun ≡ m .ledger .begun
-unfolding keeping showing
-lands-begun m s =
-    pick (λ (k : Machine). k .ledger .begun ≡ m .ledger .begun) (isOpen (m .burst))
-    (λ _. overwritten-begun (isUnread (m .waiting)) (m .ledger)) (λ _. overwritten-begun (isUnread (m .shown)) (m .ledger))
-
 -- humidity's code is that of F2 at the finish
 held-codes : (d : Device) (t : Turn) → d .f2 ≡ t .f2 % 8 → latched (rested d) (t .f4) ≡ codesOf t
 held-codes d t e = pick (λ (k : Device). latched k (t .f4) ≡ codesOf t) (isForced (d .phase)) (λ _. rw e) (λ _. rw e)
 
-module _ (es : List Event) (s t : Turn) (g : Fits s) (f : Fits t) (a : MayHold (after fresh es)) where
+module _ (es : List Event) (s t : Turn) (g : Fits s) (f : Fits t) (a : MayHold (history es)) where
   abbrev now : Machine
   now = after fresh es
+
+  running : runs (now .device .phase) ≡ true
+  running = runs-is (now .device .phase) ∙ ap (λ (d : Device). isConverting (d .phase)) (kept es .device-is) ∙ a .runs-now
+
+  not-held : now .device .held ≡ Nothing
+  not-held = ap (λ (d : Device). d .held) (kept es .device-is) ∙ a .none-held
+
+  none-open : now .burst ≡ burst.Closed
+  none-open = closed-now es (a .none-open)
+
+  room : now .ledger .begun < reg.mostBegun
+  room = room-now es (a .has-room)
 
   abbrev k : Machine
   k = holding now t
 
   k-is : after now (byWrite t) ≡ k
-  k-is = write-holds now t (a .runs-now) (a .none-held) (a .not-copying) (a .none-open)
+  k-is = write-holds now t running not-held (copying-now es (a .not-copying)) none-open
 
   is-held : IsHeld now t
   is-held = record { none-begins = ap (λ (k : Machine). k .ledger) k-is; codes-stay = ap (λ (k : Machine). k .device .codes) k-is }
@@ -61,12 +71,12 @@ module _ (es : List Event) (s t : Turn) (g : Fits s) (f : Fits t) (a : MayHold (
   taken b j = withDevice (controlled (rested (k .device)) (t .f4)) (withLedger (begunIf b (j .ledger)) j)
 
   begins-from : (j : Machine) → j .ledger .begun ≡ now .ledger .begun → runs (phaseAfter (rested (k .device) .phase) (t .f4)) ≡ true → Begins now (taken true j) (codesOf t)
-  begins-from j e u = let l = a .has-room in record { begun-is = omega arith; runs-now = u; codes-are = held-codes (k .device) t refl }
+  begins-from j e u = record { begun-is = omega (arith, room); runs-now = u; codes-are = held-codes (k .device) t refl }
 
   finishes : (b : Bool) → runs (phaseAfter (rested (k .device) .phase) (t .f4)) ≡ b → after now (byWrite t ++ finish s ∷ []) ≡ taken b (done-with k s)
   finishes b e =
-      ap (λ (k : Machine). next k (finish s)) k-is ∙ finish-takes k s g (a .runs-now) (t .f4) refl b e (a .has-room)
-      ∙ ap (taken b) (lands-shown k s (a .none-open))
+      ap (λ (k : Machine). next k (finish s)) k-is ∙ finish-takes k s g running (t .f4) refl b e room
+      ∙ ap (taken b) (lands-shown k s none-open)
 
   done-begun : done-with k s .ledger .begun ≡ now .ledger .begun
   unfolding showing
@@ -78,23 +88,22 @@ module _ (es : List Event) (s t : Turn) (g : Fits s) (f : Fits t) (a : MayHold (
       → let x = closed (after r (measured t)) (t .lent) in Delivers (now .ledger .begun + 1) (now .ledger .delivered + 1) (codesOf t) t (x .0) (x .1)
   unfolding showing
   delivers-from r u c n b w l =
-      let room = a .has-room in
-      turns es t r (codesOf t) f u n (b ∙ a .none-open) (w ∙ none-waiting es (a .none-open)) c
-      (ap (λ (l : Ledger). l .begun) l ∙ omega (arith, done-begun))
+      turns es t r (codesOf t) f u n (b ∙ none-open) (w ∙ none-waiting es none-open) c
+      (ap (λ (l : Ledger). l .begun) l ∙ omega (arith, done-begun, room))
       (ap (λ (l : Ledger). l .delivered) l ∙ overwritten-delivered (isUnread (now .shown)) (now .ledger)) room
 
   -- ---- it begins
 
-  pub held-runs-truly : BeginsHeld now t → HeldRunsTruly now s t
+  pub held-runs-truly : BeginsHeld (history es) t → HeldRunsTruly now s t
   held-runs-truly q =
-      let u : runs (phaseAfter (rested (k .device) .phase) (t .f4)) ≡ true = mode-runs (rested (k .device) .phase) (t .f4) (q .not-sleep) (λ e. rw (q .from-forced e)) in
+      let u : runs (phaseAfter (rested (k .device) .phase) (t .f4)) ≡ true = mode-runs (rested (k .device) .phase) (t .f4) (q .not-sleep) (λ e. rw (phase-now es Forced (q .from-forced e))) in
       let r : Machine = taken true (done-with k s) in
       let e : after now (byWrite t ++ finish s ∷ []) ≡ r = finishes true u in
       record {
         is-held = is-held;
         begins = subst (λ (k : Machine). Begins now k (codesOf t)) (sym e) (begins-from (done-with k s) done-begun u);
         begins-in-burst = λ i w. subst (λ (k : Machine). Begins now k (codesOf t)) (sym (in-burst i w u))
-            (begins-from (landed-with (withBurst (burst.Open i i) k) s) (lands-begun (withBurst (burst.Open i i) k) s) u);
+            (begins-from (landed-with (withBurst (burst.Open i i) k) s) (landed-begun (withBurst (burst.Open i i) k) _) u);
         delivers = subst (λ (k : Machine). let x = closed (after k (measured t)) (t .lent) in Delivers (now .ledger .begun + 1) (now .ledger .delivered + 1) (codesOf t) t (x .0) (x .1))
             (sym e) (delivers-from r u (held-codes (k .device) t refl) refl refl refl refl);
       }
@@ -102,29 +111,28 @@ module _ (es : List Event) (s t : Turn) (g : Fits s) (f : Fits t) (a : MayHold (
       opens : (i : ℕ) → reg.isReadable i ≡ true → next k (Open i) ≡ withBurst (burst.Open i i) k
       opens i w =
           ap (λ (o : Outcome). o .machine)
-          (passed (isOpen (k .burst)) (answered burstIsOpen k) _ (ap isOpen (a .none-open))
+          (passed (isOpen (k .burst)) (answered burstIsOpen k) _ (ap isOpen none-open)
           ∙ passed (not (reg.isReadable i)) (answered addressNotAllowed k) (answered done (withBurst (burst.Open i i) k)) (ap not w))
 
       in-burst : (i : ℕ) → reg.isReadable i ≡ true → runs (phaseAfter (rested (k .device) .phase) (t .f4)) ≡ true
           → after now (byWrite t ++ Open i ∷ finish s ∷ []) ≡ taken true (landed-with (withBurst (burst.Open i i) k) s)
       in-burst i w u =
           ap (λ (k : Machine). next (next k (Open i)) (finish s)) k-is ∙ ap (λ (k : Machine). next k (finish s)) (opens i w)
-          ∙ finish-takes (withBurst (burst.Open i i) k) s g (a .runs-now) (t .f4) refl true u (a .has-room)
+          ∙ finish-takes (withBurst (burst.Open i i) k) s g running (t .f4) refl true u room
 
   -- ---- it sets the codes of the next wake
 
-  pub held-latch-runs-truly : LatchesHeld now t → HeldLatchRunsTruly now s t
+  pub held-latch-runs-truly : LatchesHeld (history es) t → HeldLatchRunsTruly now s t
   held-latch-runs-truly q =
-      let p : phaseAfter (rested (k .device) .phase) (t .f4) ≡ Standby = rw (q .from-normal, q .normal) in
+      let p : phaseAfter (rested (k .device) .phase) (t .f4) ≡ Standby = rw (phase-now es Normal (q .from-normal), q .normal) in
       let j : Machine = taken false (done-with k s) in
       let j-is : after now (byWrite t ++ finish s ∷ []) ≡ j = finishes false (ap runs p) in
-      let room = a .has-room in
-      let e : after now (byWrite t ++ finish s ∷ byWake) ≡ awake j = ap (λ (k : Machine). after k byWake) j-is ∙ wake-begins j p (omega (arith, done-begun)) in
+      let e : after now (byWrite t ++ finish s ∷ byWake) ≡ awake j = ap (λ (k : Machine). after k byWake) j-is ∙ wake-begins j p (omega (arith, done-begun, room)) in
       record {
         is-held = is-held;
         none-begins = ap (λ (k : Machine). k .ledger .begun) j-is ∙ done-begun;
         begins = subst (λ (k : Machine). Begins now k (codesOf t)) (sym e)
-            (record { begun-is = omega (arith, done-begun); runs-now = refl; codes-are = held-codes (k .device) t refl });
+            (record { begun-is = omega (arith, done-begun, room); runs-now = refl; codes-are = held-codes (k .device) t refl });
         delivers = subst (λ (k : Machine). let x = closed (after k (measured t)) (t .lent) in Delivers (now .ledger .begun + 1) (now .ledger .delivered + 1) (codesOf t) t (x .0) (x .1))
             (sym e) (delivers-from (awake j) refl (held-codes (k .device) t refl) refl refl refl refl);
       }

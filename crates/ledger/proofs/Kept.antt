@@ -29,20 +29,21 @@ use Rattle.machine.specs.Counts.{isBarred, begunIf, deliveredIf, overwrittenIf}
 use Rattle.machine.specs.Control as control
 use Rattle.machine.specs.Control.{effect, heldEffect}
 use Rattle.machine.specs.Data.{inRange, stored, register}
-use Rattle.machine.specs.Events.{reset, rested, heldWillBegin, showing, keeping, converted, isWhole, delivering, waitingShown, ended, awake, byteGiven}
+use Rattle.machine.specs.Events.{reset, rested, heldWillBegin, finishedOne, converted, isWhole, delivering, ended, awake, byteGiven}
 use Rattle.machine.specs.Event.{next, answer, after}
 use Rattle.machine.proofs.Walk.{Steps, refuses-not-done, walk}
 use Rattle.ledger.specs.Happening.{Change, copied, wroteF2, wroteF5, heldF4, tookF4, Happening, began, finished, lost, opened, gave, closed, changed}
 use Rattle.ledger.specs.Device.{isConverting, isStandby, asksNormal, beginsBy, changes, begins, finishes, deviceIn}
 use Rattle.ledger.specs.Bytes.{dataBytes}
 use Rattle.ledger.specs.History.{codesIn, openedAt, givenIn, wholeIn, Measurement, shownBy, bit}
-use Rattle.ledger.specs.Told.{takes, writesF4, takesHeld, told, toldAfter, history}
+use Rattle.ledger.specs.Added.{takes, writesF4, takesHeld, added, addedAfter, history}
 use Rattle.ledger.specs.Statements.{AreOf}
 use Rattle.ledger.proofs.Book as bk
 use Rattle.ledger.proofs.Book.{Book, nonzero, nonzero-pos, enter, Asks}
 use Rattle.ledger.proofs.Right.{Right, right-fresh, right-enter, none-waits}
 use Rattle.ledger.proofs.Named.{Names, names-fresh, names-enter}
 use Rattle.ledger.proofs.Entries.{book, busy, lands, Tidy, enters-lost, enters-began, enters-finished, enters-partial, enters-whole}
+use Rattle.ledger.proofs.Tidy.{landed-begun, lands-burst, ended-device, tidy-lands, tidy-burst, tidy-ended, tidy-delivering}
 use Rattle.ledger.proofs.Given.{Spans, Spanned, spans-opened, spans-gave, whole-is, register-data, gives-value}
 use Rattle.ledger.proofs.Laid.{lays}
 use Rattle.ledger.proofs.Control.{runs-is, begins-is, takes-begun, takes-else, rests-as, rested-phase, finished-idle, standing-idle, wakes-as}
@@ -110,33 +111,6 @@ kept-began m h i l k =
     (record { small = omega arith; none-shown = t .none-shown; none-waits = t .none-waits; unread-waits = t .unread-waits; none-held = λ q. absurd (true≢false (sym e ∙ q)) })
     (k .spanned) (k .given) k
 
-pub overwritten-begun : (t : Bool) (l : Ledger) → overwrittenIf t l .begun ≡ l .begun
-overwritten-begun true l = refl
-overwritten-begun false l = refl
-
-tidy-lands : (m : Machine) (d : Device) (x y z : ℕ) → nonzero (m .ledger .begun) ≡ true → d .held ≡ Nothing → Tidy m → Tidy (lands m d x y z)
-unfolding keeping showing
-tidy-lands m d x y z one n t =
-    pick (λ (n : Machine). Tidy (withDevice d n)) (isOpen (m .burst))
-    (λ _. record {
-      small = rw (overwritten-begun (isUnread (m .waiting)) (m .ledger)) (t .small);
-      none-shown = t .none-shown;
-      none-waits = λ z. absurd (true≢false (sym one ∙ z));
-      unread-waits = refl;
-      none-held = λ _. n;
-    })
-    (λ _. record {
-      small = rw (overwritten-begun (isUnread (m .shown)) (m .ledger)) (t .small);
-      none-shown = λ z. absurd (true≢false (sym one ∙ z));
-      none-waits = t .none-waits;
-      unread-waits = t .unread-waits;
-      none-held = λ _. n;
-    })
-
-lands-burst : (m : Machine) (d : Device) (x y z : ℕ) → lands m d x y z .burst ≡ m .burst
-unfolding keeping showing
-lands-burst m d x y z = pick (λ (n : Machine). n .burst ≡ m .burst) (isOpen (m .burst)) (λ _. refl) (λ _. refl)
-
 kept-finished : (m : Machine) (x y z : ℕ) (h : List Happening) → busy m ≡ true → Kept m h → Kept (lands m (finishes (m .device)) x y z) (finished x y z ∷ h)
 kept-finished m x y z h u k =
     let r = k .right in
@@ -147,9 +121,6 @@ kept-finished m x y z h u k =
     (enters-finished m h (k .tidy) r (wholeIn h) d x y z (λ o. r .waits-is ∙ none-waits h (sym (r .open-is) ∙ o)))
     (λ q. absurd (true≢false (sym q ∙ i))) (ap finishes (k .device-is))
     (tidy-lands m d x y z one refl (k .tidy)) (rw (lands-burst m d x y z) (k .spanned)) (k .given) k
-
-tidy-burst : (m : Machine) (b : Burst) → Tidy m → Tidy (withBurst b m)
-tidy-burst m b t = record { small = t .small; none-shown = t .none-shown; none-waits = t .none-waits; unread-waits = t .unread-waits; none-held = t .none-held }
 
 kept-opened : (m : Machine) (a : ℕ) (h : List Happening) → isOpen (m .burst) ≡ false → Kept m h → Kept (withBurst (burst.Open a a) m) (opened a ∷ h)
 kept-opened m a h o k = enters (opened a) m (withBurst (burst.Open a a) m) h o refl refl (k .right .codes-is) (k .device-is) (tidy-burst m (burst.Open a a) (k .tidy)) (spans-opened a) tt k
@@ -165,37 +136,6 @@ kept-gave m i j h e k =
     enters (gave (register j m)) m (withBurst (burst.Open i (j + 1)) m) h open-is refl (rw open-is) (k .right .codes-is) (k .device-is)
     (tidy-burst m (burst.Open i (j + 1)) (k .tidy))
     (spans-gave i j (openedAt h) (register j m) (givenIn h) s) (subst Is (s .next-is) byte, k .given) k
-
-ended-device : (m : Machine) → ended m .device ≡ m .device
-unfolding showing waitingShown
-ended-device m = pick (λ (n : Machine). n .device ≡ m .device) (isThere (m .waiting)) (λ _. refl) (λ _. refl)
-
-tidy-ended : (m : Machine) → Tidy m → Tidy (ended m)
-unfolding showing waitingShown
-tidy-ended m t =
-    pick (λ (n : Machine). Tidy (withBurst burst.Closed n)) (isThere (m .waiting))
-    (λ _. record {
-      small = rw (overwritten-begun (isUnread (m .shown)) (m .ledger)) (t .small);
-      none-shown = t .none-waits;
-      none-waits = λ z. refl;
-      unread-waits = refl;
-      none-held = t .none-held;
-    })
-    (λ _. tidy-burst m burst.Closed t)
-
-delivered-begun : (t : Bool) (l : Ledger) → deliveredIf t l .begun ≡ l .begun
-delivered-begun true l = refl
-delivered-begun false l = refl
-
-tidy-delivering : (m : Machine) → Tidy m → Tidy (delivering m)
-unfolding delivering
-tidy-delivering m t = record {
-  small = rw (delivered-begun (isUnread (m .shown)) (m .ledger)) (t .small);
-  none-shown = λ z. ap (λ (c : Conversion). record { number = c .number; codes = c .codes; bytes = c .bytes; delivered = isThere c }) (t .none-shown z);
-  none-waits = t .none-waits;
-  unread-waits = t .unread-waits;
-  none-held = t .none-held;
-}
 
 -- by the machine's test of the burst, which is the history's
 closes : (m : Machine) (n : Machine) (h : List Happening) (g : Bool) → isOpen (m .burst) ≡ true → isWhole (m .burst) ≡ g → n .device ≡ m .device → n .burst ≡ burst.Closed
@@ -238,12 +178,6 @@ kept-effect m v h i f k =
 
 -- ---- a finish, and then a held F4 takes effect
 
-lands-begun : (m : Machine) (d : Device) (x y z : ℕ) → lands m d x y z .ledger .begun ≡ m .ledger .begun
-unfolding keeping showing
-lands-begun m d x y z =
-    pick (λ (k : Machine). k .ledger .begun ≡ m .ledger .begun) (isOpen (m .burst))
-    (λ _. overwritten-begun (isUnread (m .waiting)) (m .ledger)) (λ _. overwritten-begun (isUnread (m .shown)) (m .ledger))
-
 rested-held : (d : Device) → rested d .held ≡ d .held
 rested-held d = pick (λ (k : Device). k .held ≡ d .held) (state.isForced (d .phase)) (λ _. refl) (λ _. refl)
 
@@ -257,7 +191,7 @@ kept-held m Nothing x y z h e u f k =
 kept-held m (Byte v) x y z h e u f k =
     subst (λ (d : Device). Kept (effect (lands m d x y z) v) (takes (finished x y z ∷ h) v ++ finished x y z ∷ h)) (sym (rests-as (m .device)))
     (kept-effect (lands m (finishes (m .device)) x y z) v (finished x y z ∷ h) (finished-idle (m .device))
-    (rw (lands-begun m (finishes (m .device)) x y z, ← rested-phase (m .device)) f) (kept-finished m x y z h u k))
+    (rw (landed-begun m (finishedOne m (dataBytes (m .device .codes) x y z)), ← rested-phase (m .device)) f) (kept-finished m x y z h u k))
 
 -- ---- the events
 
@@ -288,7 +222,7 @@ kept-gives : (m : Machine) (i j : ℕ) → m .burst ≡ burst.Open i j → ltb r
 kept-gives m i j e l h k = rw (gives-value m i j e l) (kept-gave m i j h e k)
 
 abbrev Keeps : Machine → Event → Outcome → Type 0
-Keeps m e o = (h : List Happening) → Kept m h → Kept (o .machine) (told (o .answer) h e (byteGiven m .value) ++ h)
+Keeps m e o = (h : List Happening) → Kept m h → Kept (o .machine) (added (o .answer) h e (byteGiven m .value) ++ h)
 
 keeps : Steps Keeps
 keeps = record {
@@ -308,9 +242,9 @@ keeps = record {
   ends-partial = λ m o w h k. kept-partial m h o w k;
 }
 
-kept-after : (m : Machine) (h : List Happening) (es : List Event) → Kept m h → Kept (after m es) (toldAfter m h es)
+kept-after : (m : Machine) (h : List Happening) (es : List Event) → Kept m h → Kept (after m es) (addedAfter m h es)
 kept-after m h [] k = k
-kept-after m h (e ∷ es) k = kept-after (next m e) (told (answer m e) h e (byteGiven m .value) ++ h) es (walk Keeps keeps m e h k)
+kept-after m h (e ∷ es) k = kept-after (next m e) (added (answer m e) h e (byteGiven m .value) ++ h) es (walk Keeps keeps m e h k)
 
 -- after every list of events from the fresh state
 pub kept : (es : List Event) → Kept (after state.fresh es) (history es)

@@ -10,9 +10,11 @@ pub mod Given
 pub mod Laid
 pub mod Entries
 pub mod Control
+pub mod Tidy
 pub mod Kept
 pub mod Numbers
 pub mod Registers
+pub mod Outcomes
 pub mod Theorems
 pub mod Turn
 pub mod Alive

@@ -79,7 +79,7 @@ module _ (m : Machine) (h : List Happening) (k : Kept m h) where
   closed-in : MayControl m → openIn h ≡ false
   closed-in c = sym opens ∙ c .none-open
 
-  refusal : (e : Event) (n : ℕ) → Refuses m e n → n ≡ numberIn h e
+  pub refusal : (e : Event) (n : ℕ) → Refuses m e n → n ≡ numberIn h e
   refusal e n (Walk.not-copying c) = rw (← copies, c)
   refusal e n (Walk.write-in-burst a v o) = rw (← opens, o)
   refusal e n (Walk.write-elsewhere a v o w) = rw (← opens, o, w)
@@ -103,7 +103,7 @@ module _ (m : Machine) (h : List Happening) (k : Kept m h) where
 abbrev Numbered : Machine → Event → Outcome → Type 0
 Numbered m e o = (h : List Happening) → Kept m h → o .answer ≡ numberIn h e
 
-numbered : Steps Numbered
+pub numbered : Steps Numbered
 numbered = record {
   refuses = λ m e n r h k. refusal m h k e n r;
   powers = λ m h k. refl;

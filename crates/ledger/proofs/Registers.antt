@@ -1,30 +1,21 @@
--- The register that a byte gives is the one that the history has at the address asked for.
+-- The register at an address is the one that the history has there.
 use Prim.Native.Nat.{ℕ, _+_, _-_, _*_, _≤_, _<_}
 use mathlib.Core.Path.{_≡_, refl, sym, ap, _∙_}
 use mathlib.Core.Bool.{Bool, true, false, cond, _&&_}
 use mathlib.Core.List.{List}
-use native.Mathlib.Omega.{arith}
 use lib.Dec.{eqb, leb, ltb}
 use lib.ListN.{getD}
 use borrow.Author.Tests.{ltb-true, ltb-false, lt-leb, le-leb}
-use Rattle.laws.specs.Choices.{pick}
-use Rattle.paper.specs.Numbers.{done}
-use Rattle.paper.specs.Registers as reg
-use Rattle.machine.specs.declared.Burst.{Burst}
-use Rattle.machine.specs.declared.Burst.the-variants as burst
-use Rattle.machine.specs.declared.Outcome.{Outcome}
 use Rattle.machine.specs.declared.Machine.{Machine}
 use Rattle.machine.specs.State.{runs, isOpen}
 use Rattle.machine.specs.Data.{status, dataAt, register}
-use Rattle.machine.specs.Events.{byteOf, byteGiven}
 use Rattle.ledger.specs.Happening.{Happening}
 use Rattle.ledger.specs.Device.{isConverting, deviceIn}
 use Rattle.ledger.specs.History.{Measurement, shownBy, bit}
-use Rattle.ledger.specs.Answers.{statusIn, dataIn, addressIn, registerIn}
-use Rattle.ledger.specs.Statements.{ByteIsTrue}
+use Rattle.ledger.specs.Answers.{statusIn, dataIn, registerIn}
 use Rattle.ledger.proofs.Entries.{book}
 use Rattle.ledger.proofs.Kept.{Kept}
-use Rattle.ledger.proofs.Numbers.{runs-in, copies, address-is}
+use Rattle.ledger.proofs.Numbers.{runs-in, copies}
 
 -- two bits, of which one is eight
 bits : (r c : Bool) → cond r 8 0 + cond c 1 0 ≡ 8 * bit r + bit c
@@ -43,26 +34,10 @@ between a x = at (ltb a 0xF7) refl (ltb 0xFE a) refl
     at false e false f = rw (e, f, le-leb 0xF7 a (ltb-false a 0xF7 e), le-leb a 0xFE (ltb-false 0xFE a f))
 
 module _ (m : Machine) (h : List Happening) (k : Kept m h) where
-  register-is : (a : ℕ) → isOpen (m .burst) ≡ true → register a m ≡ registerIn h a
+  pub register-is : (a : ℕ) → isOpen (m .burst) ≡ true → register a m ≡ registerIn h a
   register-is a o =
       let shown-is : book m .shown ≡ shownBy h = k .right .shown-is ∙ rw (← k .right .open-is, o) in
       let status-is : status (m .device) ≡ statusIn h = bits (runs (m .device .phase)) (m .device .copying) ∙ rw (runs-in m h k, copies m h k) in
       let data-is : dataAt a m ≡ cond (leb 0xF7 a && leb a 0xFE) (dataIn h a) 0 =
       between a (getD (m .shown .bytes) (a - 0xF7) 0) ∙ ap (λ (c : Measurement). cond (leb 0xF7 a && leb a 0xFE) (getD (c .bytes) (a - 0xF7) 0) 0) shown-is in
       rw (status-is, data-is, k .device-is)
-
-  pub byte-is : ByteIsTrue (byteGiven m) h
-  byte-is = at (m .burst) refl
-    where
-      at : (b : Burst) → m .burst ≡ b → ByteIsTrue (byteOf b m) h
-      at burst.Closed e = record { value-is = λ z. absurd (not-done z); refused-is = λ _. refl }
-        where
-          not-done : _≡_ {A = ℕ} 6 0 → ⊥
-          not-done z = omega arith
-      at (burst.Open i j) e =
-          pick (λ (g : Outcome). ByteIsTrue g h) (ltb reg.lastRegister j)
-          (λ l. record { value-is = λ z. absurd (not-done z); refused-is = λ _. refl })
-          (λ l. record { value-is = λ _. register-is j (rw e) ∙ ap (registerIn h) (address-is m h k i j e); refused-is = λ z. absurd (z refl) })
-        where
-          not-done : _≡_ {A = ℕ} 4 0 → ⊥
-          not-done z = omega arith

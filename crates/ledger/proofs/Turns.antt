@@ -25,7 +25,8 @@ use Rattle.machine.specs.Control.{phaseAfter}
 use Rattle.machine.specs.Events.{rested, showing, delivering, wholeClosing, awake, closed}
 use Rattle.machine.specs.declared.Event.the-variants.{Copied, Close}
 use Rattle.machine.specs.Event.{next, after}
-use Rattle.ledger.specs.Alive.{Turn, Fits, IsForced, codesOf, byWrite, byWake, measured, Delivers, forcedTurns, AllForced, wokenTurns, normalTurns, AllFit, allDelivered, ForcedTurnsRunTruly, NormalTurnsRunTruly}
+use Rattle.ledger.specs.Alive.{Turn, Fits, IsForced, codesOf, byWrite, byWake, measured, Delivers}
+use Rattle.ledger.specs.Alive.{forcedTurns, AllForced, wokenTurns, normalTurns, AllFit, allDelivered, ForcedTurnsRunTruly, NormalTurnsRunTruly}
 use Rattle.ledger.proofs.Book.{same-ledger}
 use Rattle.ledger.proofs.Turn.{begun, controlledBy, mode-runs, write-begins, wake-begins, read-from, closes}
 use Rattle.ledger.proofs.Alive.{closed-after, ledger-after, delivers}

@@ -9,7 +9,6 @@ use Rattle.paper.specs.Numbers.{done}
 use Rattle.paper.specs.Registers as reg
 use Rattle.machine.specs.declared.Phase.the-variants.{Sleep, Forced, Normal, Standby}
 use Rattle.machine.specs.declared.Held.the-variants.{Nothing}
-use Rattle.machine.specs.declared.Burst.the-variants.{Closed}
 use Rattle.machine.specs.declared.Codes.{Codes}
 use Rattle.machine.specs.declared.Outcome.{Outcome}
 use Rattle.machine.specs.declared.Ledger.{Ledger}
@@ -19,10 +18,11 @@ use Rattle.machine.specs.Events.{closed}
 use Rattle.machine.specs.declared.Event.{Event}
 use Rattle.machine.specs.declared.Event.the-variants.{Power, Copied, Write, Finish, Wake, Open, Byte, Close}
 use Rattle.machine.specs.Event.{after}
-use Rattle.ledger.specs.Device.{isConverting, codesBy}
+use Rattle.ledger.specs.Happening.{Happening}
+use Rattle.ledger.specs.Device.{isConverting, codesBy, deviceIn}
 use Rattle.ledger.specs.Bytes.{dataBytes}
-use Rattle.ledger.specs.History.{begunIn}
-use Rattle.ledger.specs.Told.{history}
+use Rattle.ledger.specs.History.{begunIn, openIn}
+use Rattle.ledger.specs.Added.{history}
 
 -- one turn: the bytes for F2 and F4, the three counts, and the bytes lent to the close
 pub record Turn : Type 0 where
@@ -82,14 +82,14 @@ pub record Delivers (n d : ℕ) (c : Codes) (t : Turn) (x : Outcome) (left : Lis
   pub begun-is : x .machine .ledger .begun ≡ n
   pub delivered-is : x .machine .ledger .delivered ≡ d
 
--- ---- one turn, after whatever history
+-- ---- one turn, after whatever history h that led to the machine m
 
 -- in sleep, with nothing being copied, no burst open and room for one more; F4 asks for any mode but sleep
-pub record MayBeginByWrite (m : Machine) (t : Turn) : Type 0 where
-  pub sleeps : m .device .phase ≡ Sleep
-  pub not-copying : m .device .copying ≡ false
-  pub none-open : m .burst ≡ Closed
-  pub has-room : m .ledger .begun < 4294967295
+pub record MayBeginByWrite (h : List Happening) (t : Turn) : Type 0 where
+  pub sleeps : deviceIn h .phase ≡ Sleep
+  pub not-copying : deviceIn h .copying ≡ false
+  pub none-open : openIn h ≡ false
+  pub has-room : begunIn h < 4294967295
   pub asks : t .f4 % 4 ≡ 0 → ⊥
 
 pub record WriteRunsTruly (m : Machine) (t : Turn) : Type 0 where
@@ -98,10 +98,10 @@ pub record WriteRunsTruly (m : Machine) (t : Turn) : Type 0 where
       Delivers (m .ledger .begun + 1) (m .ledger .delivered + 1) (codesOf t) t (x .0) (x .1)
 
 -- in standby, with no burst open and room for one more
-pub record MayBeginByWake (m : Machine) : Type 0 where
-  pub stands-by : m .device .phase ≡ Standby
-  pub none-open : m .burst ≡ Closed
-  pub has-room : m .ledger .begun < 4294967295
+pub record MayBeginByWake (h : List Happening) : Type 0 where
+  pub stands-by : deviceIn h .phase ≡ Standby
+  pub none-open : openIn h ≡ false
+  pub has-room : begunIn h < 4294967295
 
 -- the codes c are those that were latched
 pub record WakeRunsTruly (m : Machine) (c : Codes) (t : Turn) : Type 0 where
@@ -110,9 +110,9 @@ pub record WakeRunsTruly (m : Machine) (c : Codes) (t : Turn) : Type 0 where
       Delivers (m .ledger .begun + 1) (m .ledger .delivered + 1) c t (x .0) (x .1)
 
 -- F4 in standby, with nothing being copied
-pub record MayWriteInStandby (m : Machine) : Type 0 where
-  pub may-wake : MayBeginByWake m
-  pub not-copying : m .device .copying ≡ false
+pub record MayWriteInStandby (h : List Happening) : Type 0 where
+  pub may-wake : MayBeginByWake h
+  pub not-copying : deviceIn h .copying ≡ false
 
 -- mode 3 leaves the standby running and begins nothing, and the next wake begins with its codes; modes 1 and 2 begin as they do in sleep
 pub record LatchRunsTruly (m : Machine) (t : Turn) : Type 0 where
@@ -125,22 +125,22 @@ pub record LatchRunsTruly (m : Machine) (t : Turn) : Type 0 where
 -- ---- F4 during a conversion is held, and takes effect when that one finishes
 
 -- one is running, none is held, nothing is being copied, no burst is open, and there is room for one more
-pub record MayHold (m : Machine) : Type 0 where
-  pub runs-now : isConverting (m .device .phase) ≡ true
-  pub none-held : m .device .held ≡ Nothing
-  pub not-copying : m .device .copying ≡ false
-  pub none-open : m .burst ≡ Closed
-  pub has-room : m .ledger .begun < 4294967295
+pub record MayHold (h : List Happening) : Type 0 where
+  pub runs-now : isConverting (deviceIn h .phase) ≡ true
+  pub none-held : deviceIn h .held ≡ Nothing
+  pub not-copying : deviceIn h .copying ≡ false
+  pub none-open : openIn h ≡ false
+  pub has-room : begunIn h < 4294967295
 
 -- F4 asks for forced mode, or in a forced conversion for normal mode: the finish begins the next
-pub record BeginsHeld (m : Machine) (t : Turn) : Type 0 where
+pub record BeginsHeld (h : List Happening) (t : Turn) : Type 0 where
   pub not-sleep : t .f4 % 4 ≡ 0 → ⊥
-  pub from-forced : t .f4 % 4 ≡ 3 → m .device .phase ≡ Forced
+  pub from-forced : t .f4 % 4 ≡ 3 → deviceIn h .phase ≡ Forced
 
 -- or in a normal conversion for normal mode: the finish begins none, and the next wake begins with its codes
-pub record LatchesHeld (m : Machine) (t : Turn) : Type 0 where
+pub record LatchesHeld (h : List Happening) (t : Turn) : Type 0 where
   pub normal : t .f4 % 4 ≡ 3
-  pub from-normal : m .device .phase ≡ Normal
+  pub from-normal : deviceIn h .phase ≡ Normal
 
 -- the running one finishes with the counts of s
 abbrev pub finish : Turn → Event

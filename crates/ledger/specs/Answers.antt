@@ -1,4 +1,4 @@
--- What each event hands back after a history: the number, by the paper's checks in their order, and the register that a byte gives.
+-- What each event hands back after a history: the number, by the paper's checks in their order, the register that a byte gives, and whether a close is whole.
 use Prim.Native.Nat.{ℕ, _+_, _-_, _*_}
 use mathlib.Core.Bool.{Bool, true, false, not, cond, _&&_, _||_}
 use mathlib.Core.List.{List, [], _∷_}
@@ -13,7 +13,7 @@ use Rattle.machine.specs.declared.Event.{Event}
 use Rattle.machine.specs.declared.Event.the-variants.{Power, Copied, Write, Finish, Wake, Open, Byte, Close}
 use Rattle.ledger.specs.Happening.{Happening}
 use Rattle.ledger.specs.Device.{isSleep, isConverting, isStandby, beginsBy, finishes, deviceIn}
-use Rattle.ledger.specs.History.{begunIn, openIn, openedAt, givenIn, shownBy, bit}
+use Rattle.ledger.specs.History.{begunIn, openIn, openedAt, givenIn, wholeIn, shownBy, bit}
 
 -- ---- the number
 
@@ -92,3 +92,27 @@ registerIn h a =
     (cond (eqb a 0xF4) (deviceIn h .f4)
     (cond (eqb a 0xF5) (deviceIn h .f5)
     (cond (leb 0xF7 a && leb a 0xFE) (dataIn h a) 0)))))
+
+-- ---- what else an event hands back
+
+-- a byte that is done has the register's value
+abbrev pub valueIn : List Happening → Event → ℕ
+valueIn h Power = 0
+valueIn h Copied = 0
+valueIn h (Write a v) = 0
+valueIn h (Finish t p u) = 0
+valueIn h Wake = 0
+valueIn h (Open a) = 0
+valueIn h Byte = cond (eqb (numberIn h Byte) done) (registerIn h (addressIn h)) 0
+valueIn h (Close n) = 0
+
+-- a close that is done is whole if all of F7 to FE were given
+abbrev pub wholeBy : List Happening → Event → Bool
+wholeBy h Power = false
+wholeBy h Copied = false
+wholeBy h (Write a v) = false
+wholeBy h (Finish t p u) = false
+wholeBy h Wake = false
+wholeBy h (Open a) = false
+wholeBy h Byte = false
+wholeBy h (Close n) = eqb (numberIn h (Close n)) done && wholeIn h

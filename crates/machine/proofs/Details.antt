@@ -32,6 +32,7 @@ details = record {
   past-the-last = refl;
   close-asks-for-a-burst = refl;
   close-asks-for-eight = refl;
+  none-open-none-whole = refl;
   nothing-shown = refl;
   nothing-shown-codes = refl;
   nothing-shown-before = refl;

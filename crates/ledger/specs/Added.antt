@@ -36,24 +36,24 @@ takesHeld byte.Nothing h = []
 takesHeld (byte.Byte v) h = takes h v
 
 -- of an event that is done after the history h, where a byte gave v: the latest first
-abbrev pub tells : List Happening → Event → ℕ → List Happening
-tells h Power v = lost ∷ []
-tells h Copied v = changed copied ∷ []
-tells h (Write a x) v = writes h a x
-tells h (Finish t p u) v = takesHeld (deviceIn h .held) (finished t p u ∷ h) ++ finished t p u ∷ []
-tells h Wake v = began ∷ []
-tells h (Open a) v = opened a ∷ []
-tells h Byte v = gave v ∷ []
-tells h (Close n) v = closed ∷ []
+abbrev pub adds : List Happening → Event → ℕ → List Happening
+adds h Power v = lost ∷ []
+adds h Copied v = changed copied ∷ []
+adds h (Write a x) v = writes h a x
+adds h (Finish t p u) v = takesHeld (deviceIn h .held) (finished t p u ∷ h) ++ finished t p u ∷ []
+adds h Wake v = began ∷ []
+adds h (Open a) v = opened a ∷ []
+adds h Byte v = gave v ∷ []
+adds h (Close n) v = closed ∷ []
 
--- a refused or ignored event, whose number n is not done, tells nothing
-abbrev pub told : ℕ → List Happening → Event → ℕ → List Happening
-told n h e v = cond (eqb n done) (tells h e v) []
+-- a refused or ignored event, whose number n is not done, adds nothing
+abbrev pub added : ℕ → List Happening → Event → ℕ → List Happening
+added n h e v = cond (eqb n done) (adds h e v) []
 
 -- after a sequence of events, the first one first
-abbrev pub toldAfter : Machine → List Happening → List Event → List Happening
-toldAfter m h [] = h
-toldAfter m h (e ∷ es) = toldAfter (next m e) (told (answer m e) h e (byteGiven m .value) ++ h) es
+abbrev pub addedAfter : Machine → List Happening → List Event → List Happening
+addedAfter m h [] = h
+addedAfter m h (e ∷ es) = addedAfter (next m e) (added (answer m e) h e (byteGiven m .value) ++ h) es
 
 abbrev pub history : List Event → List Happening
-history es = toldAfter fresh [] es
+history es = addedAfter fresh [] es
