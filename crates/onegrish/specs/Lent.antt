@@ -2,7 +2,7 @@
 use Prim.Native.Nat.{ℕ}
 use mathlib.Core.List.{List}
 use Rattle.paper.specs.Answers.{Answer}
-use Rattle.onegrish_handing.specs.Handed.{lastOr, beforeLastOr}
+use Rattle.onegrish_answers.specs.Handed.{lastOr, beforeLastOr}
 
 abbrev pub bytesInto : Answer × List ℕ → ℕ → ℕ × ℕ × List ℕ
 bytesInto o old = (o .0 .number, lastOr old (o .0 .values), o .1)

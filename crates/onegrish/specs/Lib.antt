@@ -1,2 +1,3 @@
 -- What the library hands to C.
 pub mod Lent
+pub mod Version

@@ -1,7 +1,6 @@
 // The library for C: numbers and lent slices alone. include/onegrish.h declares these functions.
 // Each answers the paper's number, and nothing is written but on 0.
 ghost use mathlib.Core.Path.{_≡_};
-ghost use Rattle.calibration.specs.Calibration.{calibrated};
 ghost use Rattle.compensation.specs.Compensation.{compensated};
 ghost use Rattle.waiting.specs.Waiting.{maximum, typical, waited};
 ghost use Rattle.waiting.specs.Polling.{polled};
@@ -9,23 +8,27 @@ ghost use Rattle.bus.specs.declared.Bus.the-variants.{I2c, Spi};
 ghost use Rattle.bus.specs.declared.Device.the-variants.{At, Selected};
 ghost use Rattle.bus.specs.Writing.{encodedWrite, decodedWrite};
 ghost use Rattle.bus.specs.Reading.{encodedRead};
-ghost use Rattle.onegrish_laying.specs.Laid.{wordsInto};
-ghost use Rattle.onegrish_channels.specs.Channels.{readingInto};
-ghost use Rattle.onegrish_handing.specs.Handed.{numberInto, placeInto, pollsOf};
+ghost use Rattle.onegrish_answers.specs.Channels.{readingInto};
+ghost use Rattle.onegrish_answers.specs.Handed.{numberInto, placeInto, pollsOf};
 ghost use Rattle.onegrish.specs.Lent.{bytesInto, pairsInto};
+ghost use Rattle.onegrish.specs.Version.{version};
 use bus::Bus;
 use bus::Device;
-use onegrish_handing::messages;
-use onegrish_handing::times;
+use onegrish_answers::channels;
+use onegrish_answers::messages;
+use onegrish_answers::times;
 use waiting::Estimate;
 
-// The 18 words T1 to T3, P1 to P9, H1 to H6 of the two calibration blocks, at the front of `words`.
-// 2 for blocks that are not 26 and 7 bytes long, then 9 for fewer than 18 places.
+// The version of the library's interface, which include/onegrish.h names too.
+const VERSION: u32 = 2;
+
+// The version of the interface that the library was built with.
+// It answers no number of the paper's.
 #[no_mangle]
-pub extern "C" fn onegrish_words(one: &[u8], two: &[u8], words: &mut [i32]) -> u8
-    ensures { λ r. ⌜ (r, now (words .exit)) ≡ wordsInto (calibrated (now (one .entry)) (now (two .entry))) (now (words .entry)) ⌝ }
+pub extern "C" fn onegrish_version() -> u32
+    ensures { λ r. ⌜ r ≡ version ⌝ }
 {
-    onegrish_laying::hand_words(calibration::calibrate(one, two), words)
+    VERSION
 }
 
 // One reading: its channels' numbers at the front of `numbers`, and at the front of `values` the temperature, the fine
@@ -44,7 +47,7 @@ pub extern "C" fn onegrish_compensate(
 ) -> u8
     ensures { λ r. ⌜ (r, now (numbers .exit), now (values .exit)) ≡ readingInto (compensated (now (one .entry)) (now (two .entry)) (now (bytes .entry)) t p h) (now (numbers .entry)) (now (values .entry)) ⌝ }
 {
-    onegrish_channels::hand_reading(
+    channels::hand_reading(
         compensation::compensate(one, two, bytes, t, p, h),
         numbers,
         values,

@@ -1,2 +1,0 @@
--- What more than one proof of the measurements cites.
-pub mod Lengths

@@ -1,0 +1,2 @@
+-- What is handed over with a device.
+pub mod Laws

@@ -1,0 +1,3 @@
+-- What lent places hold once the library's answers are handed over in them.
+pub mod Channels
+pub mod Handed

@@ -1,2 +1,0 @@
--- What lent places hold once a number is handed over in them.
-pub mod Handed

@@ -1,3 +1,0 @@
-// Numbers handed over in lent places: each function answers the paper's number, and writes on 0 alone.
-pub mod messages; // bus bytes
-pub mod times; // waiting and polling

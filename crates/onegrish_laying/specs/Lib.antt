@@ -1,2 +1,0 @@
--- What lent places hold once words are laid in them.
-pub mod Laid

@@ -1,0 +1,2 @@
+-- Words with a sign.
+pub mod Signs
