@@ -242,7 +242,7 @@ keeps = record {
   ends-partial = λ m o w h k. kept-partial m h o w k;
 }
 
-kept-after : (m : Machine) (h : List Happening) (es : List Event) → Kept m h → Kept (after m es) (addedAfter m h es)
+pub kept-after : (m : Machine) (h : List Happening) (es : List Event) → Kept m h → Kept (after m es) (addedAfter m h es)
 kept-after m h [] k = k
 kept-after m h (e ∷ es) k = kept-after (next m e) (added (answer m e) h e (byteGiven m .value) ++ h) es (walk Keeps keeps m e h k)
 

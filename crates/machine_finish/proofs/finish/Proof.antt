@@ -3,6 +3,16 @@ use Rattle.laws.specs.Cases.{cases}
 use Rattle.machine_finish.proofs.finish.Statement.{statement}
 use Rattle.machine_finish.proofs.finish.Tie as tie
 
+-- the test for one too many asks for what the held F4 begins
+barred : tie.Need-returns-3
+barred c = search (cases, rw (c .before .before .before .held-will-begin .ensures) at (c .before .before .is-barred .ensures))
+
+done : tie.Need-returns-4
+done c =
+    let asked = c .before .before .before .before in
+    rw (c .answer4 .ensures, c .before .convert .ensures, c .before .before .store .ensures)
+    (search (cases, rw (asked .before .held-will-begin .ensures) at (asked .is-barred .ensures)))
+
 pub finish-spec : {M : Type 1} → statement M
 finish-spec =
     tie.close
@@ -16,8 +26,8 @@ finish-spec =
     (λ c κs. tt)
     (λ c κs. tt)
     (λ c κs. tt)
-    (λ c. search (cases, rw (c .before .before .before .held-will-begin .ensures) at (c .before .before .is-barred .ensures)))
+    barred
     (λ c κs. tt)
     (λ c κs. tt)
     (λ c κs. tt)
-    (λ c. rw (c .answer4 .ensures, c .before .convert .ensures, c .before .before .store .ensures) (search (cases, rw (c .before .before .before .before .before .held-will-begin .ensures) at (c .before .before .before .before .is-barred .ensures)))))
+    done)

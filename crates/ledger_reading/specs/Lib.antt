@@ -1,0 +1,2 @@
+-- What compensation makes of what a whole close shows.
+pub mod Reading
