@@ -12,9 +12,15 @@ twenty-back n h = omega arith
 sixteen-back : (n : ℕ) → n < 65536 → sixteenBits (n / 256 % 256) (n % 256) ≡ n
 sixteen-back n h = omega arith
 
+same-counts : (a b : Counts) → a .temperature ≡ b .temperature → a .pressure ≡ b .pressure → a .humidity ≡ b .humidity → a ≡ b
+same-counts a b t p h = rw (t, p, h)
+
 pub laid-then-counted : LaidThenCounted
 laid-then-counted c r =
-    rw (twenty-back (c .temperature) (r .temperature), twenty-back (c .pressure) (r .pressure), sixteen-back (c .humidity) (r .humidity))
+    same-counts (countsOf (laid (c .temperature) (c .pressure) (c .humidity))) c
+    (twenty-back (c .temperature) (r .temperature))
+    (twenty-back (c .pressure) (r .pressure))
+    (sixteen-back (c .humidity) (r .humidity))
 
 module _ (high middle low : ℕ) (h : high < 256) (m : middle < 256) (l : low < 256) where
   abbrev n : ℕ
