@@ -5,7 +5,6 @@ use mathlib.Core.List.{List, [], _∷_}
 use lib.Dec.{eqb, leb, ltb}
 use lib.ListN.{getD, length}
 use Rattle.paper.specs.Numbers.{done, ignored, wrongLength, burstIsOpen, addressNotAllowed, stillCopying, wrongPhase, outOfRange, allBegun}
-use Rattle.paper.specs.Registers as reg
 use Rattle.machine.specs.declared.Phase.{Phase}
 use Rattle.machine.specs.declared.Held.{Held}
 use Rattle.machine.specs.declared.Held.the-variants as byte
