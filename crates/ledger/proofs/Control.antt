@@ -1,6 +1,6 @@
 -- The machine's rules for phases are the history's: what F4 makes of them, and what a finish does.
 use Prim.Native.Nat.{ℕ, zero, suc, _-_, _*_, _/_, _%_, _<_}
-use mathlib.Core.Path.{_≡_, refl, sym, ap, _∙_}
+use mathlib.Core.Path.{_≡_, refl, ap}
 use mathlib.Core.Bool.{Bool, true, false, cond, _&&_, _||_, false≢true, true≢false}
 use native.Mathlib.Omega.{arith}
 use lib.Dec.{eqb}
@@ -9,11 +9,10 @@ use Rattle.machine.specs.declared.Phase.the-variants.{Sleep, Forced, Normal, St
 use Rattle.machine.specs.declared.Held.{Held}
 use Rattle.machine.specs.declared.Held.the-variants.{Nothing, Byte}
 use Rattle.machine.specs.declared.Device.{Device}
-use Rattle.machine.specs.Fields.{withHeld, withPhase, withF4}
-use Rattle.machine.specs.State as state
+use Rattle.machine.specs.Fields.{withHeld, withPhase}
 use Rattle.machine.specs.State.{runs, sleeps, standsBy}
 use Rattle.machine.specs.Control as control
-use Rattle.machine.specs.Control.{phaseAfter, controlled}
+use Rattle.machine.specs.Control.{controlled}
 use Rattle.machine.specs.Events.{rested}
 use Rattle.ledger.specs.Happening.{tookF4}
 use Rattle.ledger.specs.Device.{isSleep, isConverting, isForced, isStandby, beginsBy, changes, begins, finishes}

@@ -18,7 +18,7 @@ use Rattle.machine.specs.Fields.{withDevice, withBurst, withLedger}
 use Rattle.machine.specs.State.{fresh, runs, isForced, isOpen, isUnread}
 use Rattle.machine.specs.Counts.{begunIf, overwrittenIf}
 use Rattle.machine.specs.Control.{phaseAfter, latched, controlled}
-use Rattle.machine.specs.Events.{answered, rested, showing, keeping, awake, closed}
+use Rattle.machine.specs.Events.{answered, rested, showing, awake, closed}
 use Rattle.machine.specs.declared.Event.{Event}
 use Rattle.machine.specs.declared.Event.the-variants.{Open}
 use Rattle.machine.specs.Event.{next, after}

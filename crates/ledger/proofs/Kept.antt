@@ -4,28 +4,24 @@ use mathlib.Core.Path.{_≡_, refl, sym, ap, _∙_, subst}
 use mathlib.Core.Bool.{Bool, true, false, cond, _&&_, _||_, true≢false}
 use mathlib.Core.List.{List, [], _∷_, _++_, append-assoc}
 use native.Mathlib.Omega.{arith}
-use lib.Dec.{eqb, ltb}
+use lib.Dec.{ltb}
 use lib.ListN.{getD}
-use borrow.Author.Tests.{leb-false, eqb-false}
+use borrow.Author.Tests.{leb-false}
 use Rattle.laws.specs.Choices.{pick}
-use Rattle.paper.specs.Numbers.{done}
 use Rattle.paper.specs.Registers as reg
 use Rattle.machine.specs.declared.Phase.{Phase}
 use Rattle.machine.specs.declared.Held.{Held}
 use Rattle.machine.specs.declared.Held.the-variants.{Nothing, Byte}
-use Rattle.machine.specs.declared.Burst.{Burst}
 use Rattle.machine.specs.declared.Burst.the-variants as burst
 use Rattle.machine.specs.declared.Codes.{Codes}
-use Rattle.machine.specs.declared.Conversion.{Conversion}
 use Rattle.machine.specs.declared.Device.{Device}
-use Rattle.machine.specs.declared.Ledger.{Ledger}
 use Rattle.machine.specs.declared.Machine.{Machine}
 use Rattle.machine.specs.declared.Outcome.{Outcome}
 use Rattle.machine.specs.declared.Event.{Event}
 use Rattle.machine.specs.Fields.{withHeld, withDevice, withBurst, withLedger}
 use Rattle.machine.specs.State as state
-use Rattle.machine.specs.State.{runs, standsBy, isOpen, isThere, isUnread}
-use Rattle.machine.specs.Counts.{isBarred, begunIf, deliveredIf, overwrittenIf}
+use Rattle.machine.specs.State.{runs, standsBy, isOpen}
+use Rattle.machine.specs.Counts.{isBarred, begunIf}
 use Rattle.machine.specs.Control as control
 use Rattle.machine.specs.Control.{effect, heldEffect}
 use Rattle.machine.specs.Data.{inRange, stored, register}

@@ -1,14 +1,12 @@
 -- The number that an event hands back is the one that the checks give after the history.
-use Prim.Native.Nat.{ℕ, _≤_}
+use Prim.Native.Nat.{ℕ}
 use mathlib.Core.Path.{_≡_, refl, sym, ap, _∙_}
-use mathlib.Core.Bool.{Bool, true, false, not, _&&_}
+use mathlib.Core.Bool.{false, _&&_}
 use mathlib.Core.List.{List}
 use native.Mathlib.Omega.{arith}
-use lib.Dec.{eqb, leb, ltb}
+use lib.Dec.{leb}
 use borrow.Author.Tests.{leb-true, le-leb, eqb-true, eq-eqb, not-true, not-false}
-use Rattle.paper.specs.Numbers.{done}
 use Rattle.paper.specs.Registers as reg
-use Rattle.machine.specs.declared.Phase.{Phase}
 use Rattle.machine.specs.declared.Held.{Held}
 use Rattle.machine.specs.declared.Held.the-variants.{Nothing, Byte}
 use Rattle.machine.specs.declared.Burst.the-variants as burst
@@ -19,7 +17,7 @@ use Rattle.machine.specs.declared.Event.{Event}
 use Rattle.machine.specs.State.{runs, sleeps, standsBy, isHeld, isOpen}
 use Rattle.machine.specs.Counts.{isBarred}
 use Rattle.machine.specs.Control as control
-use Rattle.machine.specs.Events.{rested, heldWillBegin}
+use Rattle.machine.specs.Events.{heldWillBegin}
 use Rattle.machine.specs.Event.{answer}
 use Rattle.machine.proofs.Walk
 use Rattle.machine.proofs.Walk.{Steps, Refuses, MayControl, walk}

@@ -69,8 +69,8 @@ module _ (m : Machine) (h : List Happening) (k : Kept m h) where
       ap (registerIn h) (address-is m h k i j e)
       ∙ subst (λ (n : ℕ). registerIn h (addressIn h) ≡ cond (eqb n done) (registerIn h (addressIn h)) 0) n refl
 
-  closed-is : isOpen (m .burst) ≡ true → done ≡ numberIn h (Close 8) → wholeIn h ≡ eqb (numberIn h (Close 8)) done && wholeIn h
-  closed-is o n = subst (λ (n : ℕ). wholeIn h ≡ eqb n done && wholeIn h) n refl
+  closed-is : done ≡ numberIn h (Close 8) → wholeIn h ≡ eqb (numberIn h (Close 8)) done && wholeIn h
+  closed-is n = subst (λ (n : ℕ). wholeIn h ≡ eqb n done && wholeIn h) n refl
 
 owed : Steps Owed
 owed = record {
@@ -94,12 +94,12 @@ owed = record {
   };
   ends-whole = λ m o w h k. record {
     value-is = refl;
-    whole-is = sym w ∙ whole-is (m .burst) h o (k .spanned) ∙ closed-is m h k o (numbered .ends-whole m o w h k);
+    whole-is = sym w ∙ whole-is (m .burst) h o (k .spanned) ∙ closed-is m h k (numbered .ends-whole m o w h k);
     whole-has = λ _. ap (λ (c : Measurement). c .bytes) (shown-is m h k o);
     else-has = λ z. absurd (true≢false z);
   };
   ends-partial = λ m o w h k. plain done _ h (Close 8) refl
-      (sym (whole-is (m .burst) h o (k .spanned) ∙ closed-is m h k o (numbered .ends-partial m o w h k)) ∙ w);
+      (sym (whole-is (m .burst) h o (k .spanned) ∙ closed-is m h k (numbered .ends-partial m o w h k)) ∙ w);
 }
 
 pub outcome-is : (m : Machine) (h : List Happening) → Kept m h → (e : Event) → OutcomeIsTrue (stepped m e) h e

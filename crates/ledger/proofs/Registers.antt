@@ -1,16 +1,15 @@
 -- The register at an address is the one that the history has there.
-use Prim.Native.Nat.{ℕ, _+_, _-_, _*_, _≤_, _<_}
-use mathlib.Core.Path.{_≡_, refl, sym, ap, _∙_}
+use Prim.Native.Nat.{ℕ, _+_, _-_, _*_}
+use mathlib.Core.Path.{_≡_, refl, ap, _∙_}
 use mathlib.Core.Bool.{Bool, true, false, cond, _&&_}
 use mathlib.Core.List.{List}
-use lib.Dec.{eqb, leb, ltb}
+use lib.Dec.{leb, ltb}
 use lib.ListN.{getD}
 use borrow.Author.Tests.{ltb-true, ltb-false, lt-leb, le-leb}
 use Rattle.machine.specs.declared.Machine.{Machine}
 use Rattle.machine.specs.State.{runs, isOpen}
 use Rattle.machine.specs.Data.{status, dataAt, register}
 use Rattle.ledger.specs.Happening.{Happening}
-use Rattle.ledger.specs.Device.{isConverting, deviceIn}
 use Rattle.ledger.specs.History.{Measurement, shownBy, bit}
 use Rattle.ledger.specs.Answers.{statusIn, dataIn, registerIn}
 use Rattle.ledger.proofs.Entries.{book}

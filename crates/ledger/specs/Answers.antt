@@ -5,7 +5,6 @@ use mathlib.Core.List.{List, [], _∷_}
 use lib.Dec.{eqb, leb, ltb}
 use lib.ListN.{getD, length}
 use Rattle.paper.specs.Numbers.{done, ignored, wrongLength, burstIsOpen, addressNotAllowed, stillCopying, wrongPhase, outOfRange, allBegun}
-use Rattle.paper.specs.Registers as reg
 use Rattle.machine.specs.declared.Phase.{Phase}
 use Rattle.machine.specs.declared.Held.{Held}
 use Rattle.machine.specs.declared.Held.the-variants as byte
@@ -49,6 +48,13 @@ ignoresWrite h a v =
 abbrev pub beginsWrite : List Happening → ℕ → ℕ → Bool
 beginsWrite h a v = eqb a 0xF4 && (not (isConverting (phaseIn h)) && beginsBy (phaseIn h) v)
 
+-- F2, F4 and F5 may be written once nothing is being copied; a conversion may finish while it is running
+abbrev pub mayWriteIn : List Happening → Bool
+mayWriteIn h = not (deviceIn h .copying)
+
+abbrev pub mayFinishIn : List Happening → Bool
+mayFinishIn h = isConverting (phaseIn h)
+
 -- the address that the open burst gives next: the one that was asked for, and one more for each byte given since
 abbrev pub addressIn : List Happening → ℕ
 addressIn h = openedAt h + length (givenIn h)
@@ -60,12 +66,12 @@ numberIn h (Write a v) =
     firstOf (
     (openIn h, burstIsOpen)
     ∷ (not (eqb a 0xF2 || (eqb a 0xF4 || (eqb a 0xF5 || eqb a 0xE0))), addressNotAllowed)
-    ∷ (not (eqb a 0xE0) && deviceIn h .copying, stillCopying)
+    ∷ (not (eqb a 0xE0) && not (mayWriteIn h), stillCopying)
     ∷ (beginsWrite h a v && allBegunIn h, allBegun)
     ∷ (ignoresWrite h a v, ignored) ∷ [])
 numberIn h (Finish t p u) =
     firstOf (
-    (not (isConverting (phaseIn h)), wrongPhase)
+    (not (mayFinishIn h), wrongPhase)
     ∷ (not (ltb t 0x100000 && (ltb p 0x100000 && ltb u 0x10000)), outOfRange)
     ∷ (heldBegins (deviceIn h .held) (finishes (deviceIn h) .phase) && allBegunIn h, allBegun) ∷ [])
 numberIn h Wake = firstOf ((not (isStandby (phaseIn h)), wrongPhase) ∷ (allBegunIn h, allBegun) ∷ [])

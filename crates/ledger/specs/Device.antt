@@ -5,7 +5,6 @@ use mathlib.Core.List.{List, [], _∷_}
 use lib.Dec.{eqb}
 use Rattle.machine.specs.declared.Phase.{Phase}
 use Rattle.machine.specs.declared.Phase.the-variants.{Sleep, Forced, Normal, Standby}
-use Rattle.machine.specs.declared.Held.{Held}
 use Rattle.machine.specs.declared.Held.the-variants as byte
 use Rattle.machine.specs.declared.Codes.{Codes}
 use Rattle.machine.specs.declared.Device.{Device}
