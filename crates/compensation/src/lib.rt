@@ -25,7 +25,7 @@ pub enum Answer {
 // The reading that eight bytes make with a chip's words, at the codes of temperature, pressure and humidity.
 // A code above 7 refuses it with 7.
 pub fn compensate_words(words: Words, bytes: [u8; 8], t: u8, p: u8, h: u8) -> Answer
-    ensures { λ r. ⌜ r ≡ comp.compensatedWords words bytes t p h ⌝ }
+    ensures { λ r. ⌜ comp.readingAnswer r ≡ comp.readingAnswer (comp.compensatedWords words bytes t p h) ⌝ }
 {
     if paper::are_codes(t, p, h) {
         Answer::Done(channels::read(words, data::count(bytes), t, p, h))
@@ -37,7 +37,7 @@ pub fn compensate_words(words: Words, bytes: [u8; 8], t: u8, p: u8, h: u8) -> An
 // The reading that the two calibration blocks and the data bytes make, at the codes of temperature, pressure and humidity.
 // Blocks and data that are not 26, 7 and 8 bytes long refuse it with 2, and then a code above 7 with 7.
 pub fn compensate(one: &[u8], two: &[u8], bytes: &[u8], t: u8, p: u8, h: u8) -> Answer
-    ensures { λ r. ⌜ r ≡ comp.compensated (now (one .entry)) (now (two .entry)) (now (bytes .entry)) t p h ⌝ }
+    ensures { λ r. ⌜ comp.readingAnswer r ≡ comp.readingAnswer (comp.compensated (now (one .entry)) (now (two .entry)) (now (bytes .entry)) t p h) ⌝ }
 {
     compensate_with(calibration::calibrate(one, two), bytes, t, p, h)
 }

@@ -1,7 +1,9 @@
--- The answer of a channel, made of a formula's last number; and the paper's number of it.
+-- The answer of a channel, made of a formula's last number; and the paper's number and values of it.
 use Prim.Native.Nat.{ℕ}
-use lib.IntN.{natAbs}
+use mathlib.Core.List.{[], _∷_}
+use lib.IntN.{pos, natAbs}
 use Rattle.paper.specs.Numbers as no
+use Rattle.paper.specs.Answers.{SignedAnswer, given, refused}
 use Rattle.steps.specs.declared.Num.{Num}
 use Rattle.steps.specs.declared.Num.the-variants.{Value, Broke}
 use Rattle.formula.specs.declared.Missing.{Missing}
@@ -19,7 +21,16 @@ abbrev pub answered : Num → ChannelAnswer
 answered (Value z) = channel.Known (natAbs z)
 answered (Broke number) = channel.Missing (missing number)
 
--- the paper's number of an answer
+-- the paper's number and values for each case of the enums: the fine temperature goes with the temperature
+unfoldable pub temperatureAnswer : TemperatureAnswer → SignedAnswer
+temperatureAnswer (heat.Known value fine) = given (value ∷ fine ∷ [])
+temperatureAnswer (heat.Missing m) = refused (m .number)
+
+unfoldable pub channelAnswer : ChannelAnswer → SignedAnswer
+channelAnswer (channel.Known value) = given (pos value ∷ [])
+channelAnswer (channel.Missing m) = refused (m .number)
+
+-- the number alone
 abbrev pub temperatureNumber : TemperatureAnswer → ℕ
 temperatureNumber (heat.Known value fine) = no.done
 temperatureNumber (heat.Missing m) = m .number

@@ -1,9 +1,12 @@
-// What the maker's three formulas share: their answers, the numbers that they are given, and the guard of the plain roads on
-// the fine temperature.
+// What the maker's three formulas share: their answers, the numbers that they are given, their first step, and the guard of the
+// plain roads on the fine temperature.
 ghost use mathlib.Core.Path.{_≡_};
 ghost use lib.IntN.{pos};
+ghost use Rattle.steps.specs.Work.{run, given, num, _-_};
 ghost use Rattle.formula.specs.Plain.{isUsual};
 use steps::Num;
+use steps::Signed;
+use steps::subtract;
 
 // What stands in the place of a channel that has no value: the paper's number, 10 to 14.
 pub struct Missing {
@@ -48,6 +51,24 @@ pub fn signed32(x: i32) -> Num
     ensures { λ r. ⌜ r ≡ Num.Value x ⌝ }
 {
     Num::Value(x as i64)
+}
+
+// How far a fine temperature lies above where a formula starts, as one step.
+pub fn difference(width: Signed, fine: i32, start: u32) -> Num
+    ensures { λ r. ⌜ r ≡ run width (given fine - num start) ⌝ }
+{
+    subtract(width, signed32(fine), unsigned(start))
+}
+
+// The same answer, made anew of its parts.
+// A checked road leaves its answer in memory; made anew, it leaves the plain road's in the machine's registers.
+pub fn anew(a: ChannelAnswer) -> ChannelAnswer
+    ensures { λ r. ⌜ r ≡ a ⌝ }
+{
+    match a {
+        ChannelAnswer::Known(value) => ChannelAnswer::Known(value),
+        ChannelAnswer::Missing(missing) => ChannelAnswer::Missing(missing),
+    }
 }
 
 // Whether a fine temperature is one from -43 to 93 degrees.

@@ -16,14 +16,3 @@ pub fn humidity(words: HumidityWords, fine: i32, count: u32) -> ChannelAnswer
         Num::Value(v) => lines::last(v),
     }
 }
-
-// The same humidity, made anew of its parts.
-// The checked road leaves its answer in memory; made anew, it leaves the plain road's in the machine's registers.
-pub fn anew(a: ChannelAnswer) -> ChannelAnswer
-    ensures { λ r. ⌜ r ≡ a ⌝ }
-{
-    match a {
-        ChannelAnswer::Known(value) => ChannelAnswer::Known(value),
-        ChannelAnswer::Missing(n) => ChannelAnswer::Missing(n),
-    }
-}

@@ -2,6 +2,7 @@
 // maker's a function with the line's definition as its promise. On the plain road the same lines are worked out with no
 // test, where a guard on what comes in proves that no step can leave its type. Real air takes the plain road.
 ghost use mathlib.Core.Path.{_≡_};
+ghost use Rattle.formula.specs.Answers.{channelAnswer};
 ghost use Rattle.formula_humidity.specs.Humidity.{humidityOf};
 
 mod checked;
@@ -11,14 +12,14 @@ mod plain;
 
 use calibration::HumidityWords;
 use formula::ChannelAnswer;
-use formula::is_usual;
+use formula::anew;
 
 // The humidity of a count, with the chip's words and the fine temperature.
 pub fn humidity(words: HumidityWords, fine: i32, count: u32) -> ChannelAnswer
-    ensures { λ r. ⌜ r ≡ humidityOf words fine count ⌝ }
+    ensures { λ r. ⌜ channelAnswer r ≡ channelAnswer (humidityOf words fine count) ⌝ }
 {
-    if is_usual(fine) & guards::are_small(words) & (count <= 65535) {
+    if guards::is_plain(words, fine, count) {
         return plain::humidity(words, fine, count);
     }
-    checked::anew(checked::humidity(words, fine, count))
+    anew(checked::humidity(words, fine, count))
 }

@@ -4,12 +4,12 @@ ghost use lib.IntN.{pos};
 ghost use Rattle.steps.specs.declared.Signed.the-variants.{Bits32};
 ghost use Rattle.steps.specs.Work.{run};
 ghost use Rattle.formula.specs.Answers.{answered};
-ghost use Rattle.formula_humidity.specs.Humidity.{differenceLine, levelFactor, bendFactor, gainFactor, productLine, correctionLine, humidityLines, clamped, lastLine};
+ghost use Rattle.formula_humidity.specs.Humidity.{levelFactor, bendFactor, gainFactor, productLine, correctionLine, humidityLines, clamped, lastLine};
 use calibration::HumidityWords;
 use formula::ChannelAnswer;
+use formula::difference;
 use formula::signed8;
 use formula::signed16;
-use formula::signed32;
 use formula::unsigned;
 use steps::Num;
 use steps::Signed;
@@ -18,13 +18,6 @@ use steps::multiply;
 use steps::shift_left;
 use steps::shift_right;
 use steps::subtract;
-
-// The fine temperature less 76800: the maker's first v.
-fn difference(fine: i32) -> Num
-    ensures { λ r. ⌜ r ≡ run Bits32 (differenceLine fine) ⌝ }
-{
-    subtract(Signed::Bits32, signed32(fine), Num::Value(76800))
-}
 
 // The first factor of the maker's product: the count less what H4 and H5 take off.
 fn level(words: HumidityWords, count: u32, v: i64) -> Num
@@ -84,7 +77,7 @@ fn correction(words: HumidityWords, v: i64) -> Num
 pub fn humidity(words: HumidityWords, fine: i32, count: u32) -> Num
     ensures { λ r. ⌜ r ≡ run Bits32 (humidityLines words fine count) ⌝ }
 {
-    let a = difference(fine);
+    let a = difference(Signed::Bits32, fine, 76800);
     let Num::Value(x) = a else {
         return a;
     };

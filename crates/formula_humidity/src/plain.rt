@@ -3,14 +3,15 @@ ghost use mathlib.Core.Path.{_≡_};
 ghost use Prim.Native.Nat.{_≤_};
 ghost use lib.IntN.{natAbs};
 ghost use Rattle.steps.specs.declared.Signed.the-variants.{Bits32};
-ghost use Rattle.formula.specs.Plain.{Usual, Gives};
-ghost use Rattle.formula_humidity.specs.Plain.{SmallWords, Small};
+ghost use Rattle.formula.specs.Plain.{Gives};
+ghost use Rattle.formula_humidity.specs.Plain.{SmallWords, Plain, Small};
 ghost use Rattle.formula_humidity.specs.Humidity.{levelFactor, bendFactor, gainFactor, correctionLine, humidityOf};
 use super::checked;
 use super::guards;
 use super::lines;
 use calibration::HumidityWords;
 use formula::ChannelAnswer;
+use formula::anew;
 
 // The product's first factor.
 fn level(words: HumidityWords, count: u32, v: i64) -> i64
@@ -53,8 +54,8 @@ fn correct(words: HumidityWords, v: i64) -> i64
 
 // The humidity, where the fine temperature and the words are usual and the count has its sixteen bits.
 // A product that is not small takes the checked road.
-pub fn humidity(words: HumidityWords, fine: i32, count: u32) -> ChannelAnswer
-    requires { ⌜ Usual fine × (SmallWords words × (count ≤ 65535)) ⌝ }
+pub(crate) fn humidity(words: HumidityWords, fine: i32, count: u32) -> ChannelAnswer
+    requires { ⌜ Plain words fine count ⌝ }
     ensures { λ r. ⌜ r ≡ humidityOf words fine count ⌝ }
 {
     let difference = fine as i64 - 76800;
@@ -62,5 +63,5 @@ pub fn humidity(words: HumidityWords, fine: i32, count: u32) -> ChannelAnswer
     if guards::is_small(product) {
         return lines::last(correct(words, product));
     }
-    checked::anew(checked::humidity(words, fine, count))
+    anew(checked::humidity(words, fine, count))
 }

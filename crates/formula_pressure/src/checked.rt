@@ -16,14 +16,3 @@ pub fn pressure(words: PressureWords, fine: i32, count: u32) -> ChannelAnswer
         Num::Value(p) => lines::in_range(p),
     }
 }
-
-// The same pressure, made anew of its parts.
-// The checked road leaves its answer in memory; made anew, it leaves the plain road's in the machine's registers.
-pub fn anew(a: ChannelAnswer) -> ChannelAnswer
-    ensures { λ r. ⌜ r ≡ a ⌝ }
-{
-    match a {
-        ChannelAnswer::Known(value) => ChannelAnswer::Known(value),
-        ChannelAnswer::Missing(n) => ChannelAnswer::Missing(n),
-    }
-}

@@ -2,6 +2,7 @@
 // maker's a function with the line's definition as its promise. On the plain road the same lines are worked out with no
 // test, where a guard on what comes in proves that no step can leave its type. Real air takes the plain road.
 ghost use mathlib.Core.Path.{_≡_};
+ghost use Rattle.formula.specs.Answers.{channelAnswer};
 ghost use Rattle.formula_pressure.specs.Pressure.{pressureOf};
 
 mod checked;
@@ -11,14 +12,14 @@ mod plain;
 
 use calibration::PressureWords;
 use formula::ChannelAnswer;
-use formula::is_usual;
+use formula::anew;
 
 // The pressure of a count, with the chip's words and the fine temperature.
 pub fn pressure(words: PressureWords, fine: i32, count: u32) -> ChannelAnswer
-    ensures { λ r. ⌜ r ≡ pressureOf words fine count ⌝ }
+    ensures { λ r. ⌜ channelAnswer r ≡ channelAnswer (pressureOf words fine count) ⌝ }
 {
-    if is_usual(fine) & (words.p1 <= 45000) & (count <= 1048576) {
+    if guards::is_plain(words.p1, fine, count) {
         return plain::pressure(words, fine, count);
     }
-    checked::anew(checked::pressure(words, fine, count))
+    anew(checked::pressure(words, fine, count))
 }

@@ -5,12 +5,12 @@ ghost use Rattle.steps.specs.declared.Signed.the-variants.{Bits64};
 ghost use Rattle.steps.specs.Step.{passed};
 ghost use Rattle.steps.specs.Work.{run};
 ghost use Rattle.formula.specs.Answers.{answered};
-ghost use Rattle.formula_pressure.specs.Pressure.{differenceLine, offsetLines, divisorLines, quotientLines, curveLine, slopeLine, lastLine, refinedLines, pressureLines, isPressure};
+ghost use Rattle.formula_pressure.specs.Pressure.{offsetLines, divisorLines, quotientLines, curveLine, slopeLine, lastLine, refinedLines, pressureLines, isPressure};
 use calibration::PressureWords;
 use formula::ChannelAnswer;
 use formula::Missing;
+use formula::difference;
 use formula::signed16;
-use formula::signed32;
 use formula::unsigned;
 use steps::Num;
 use steps::Signed;
@@ -21,13 +21,6 @@ use steps::refuse_zero;
 use steps::shift_left;
 use steps::shift_right;
 use steps::subtract;
-
-// The maker's first var1: the fine temperature less 128000.
-fn difference(fine: i32) -> Num
-    ensures { λ r. ⌜ r ≡ run Bits64 (differenceLine fine) ⌝ }
-{
-    subtract(Signed::Bits64, signed32(fine), Num::Value(128000))
-}
 
 // The maker's var2, in its three lines, from the first var1.
 fn offset(words: PressureWords, difference: i64) -> Num
@@ -115,7 +108,7 @@ fn refine(words: PressureWords, p: i64) -> Num
 pub fn pressure(words: PressureWords, fine: i32, count: u32) -> Num
     ensures { λ r. ⌜ r ≡ run Bits64 (pressureLines words fine count) ⌝ }
 {
-    let a = difference(fine);
+    let a = difference(Signed::Bits64, fine, 128000);
     let Num::Value(x) = a else {
         return a;
     };

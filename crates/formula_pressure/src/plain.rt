@@ -5,14 +5,15 @@ ghost use Prim.Native.Nat.{_≤_};
 ghost use lib.IntN.{natAbs};
 ghost use Rattle.steps.specs.declared.Signed.the-variants.{Bits64};
 ghost use Rattle.steps.specs.Step.{isNonzero};
-ghost use Rattle.formula.specs.Plain.{Usual, Gives};
-ghost use Rattle.formula_pressure.specs.Plain.{Dividing, dividendLine, divisionLine};
+ghost use Rattle.formula.specs.Plain.{Gives};
+ghost use Rattle.formula_pressure.specs.Plain.{Plain, Dividing, dividendLine, divisionLine};
 ghost use Rattle.formula_pressure.specs.Pressure.{offsetLines, divisorLines, refinedLines, pressureOf};
 use super::checked;
 use super::guards;
 use super::lines;
 use calibration::PressureWords;
 use formula::ChannelAnswer;
+use formula::anew;
 
 // The offset that the dividend loses.
 fn offset(words: PressureWords, difference: i64) -> i64
@@ -68,8 +69,8 @@ fn refine(words: PressureWords, p: i64) -> i64
 
 // The pressure, where the fine temperature and P1 are usual and the count has its twenty bits.
 // A quotient that is not small takes the checked road.
-pub fn pressure(words: PressureWords, fine: i32, count: u32) -> ChannelAnswer
-    requires { ⌜ Usual fine × ((words .p1 ≤ 45000) × (count ≤ 1048576)) ⌝ }
+pub(crate) fn pressure(words: PressureWords, fine: i32, count: u32) -> ChannelAnswer
+    requires { ⌜ Plain (words .p1) fine count ⌝ }
     ensures { λ r. ⌜ r ≡ pressureOf words fine count ⌝ }
 {
     let difference = fine as i64 - 128000;
@@ -79,5 +80,5 @@ pub fn pressure(words: PressureWords, fine: i32, count: u32) -> ChannelAnswer
     if guards::is_dividing(above, var1) {
         return lines::in_range(refine(words, quotient(above, var1)));
     }
-    checked::anew(checked::pressure(words, fine, count))
+    anew(checked::pressure(words, fine, count))
 }

@@ -3,20 +3,24 @@ use Prim.Native.Nat.{ℕ, zero, suc, _+_, _*_, _/_, _≤_, _<_}
 use mathlib.Core.Path.{_≡_}
 use mathlib.Core.Bool.{true}
 use native.Mathlib.Omega.{arith}
-use native.Mathlib.Nat.{le-trans, mul-le-mul, lt-of-not-le, not-le-of-lt}
+use native.Mathlib.Nat.{mul-le-mul, lt-of-not-le, not-le-of-lt}
 use lib.IntN.{ℤ, pos, negsuc, natAbs, _-ℤ_, _*ℤ_}
 use lib.Signed.{ltZ}
 use borrow.Author.Tests.{ltb-true}
 use Rattle.formula.proofs.Bounds.{split}
+use Rattle.formula_temperature.specs.Plain.{distance, isNear, Near}
 
 -- ---- a square tells how far a number lies from zero
 
-root : (n k : ℕ) → n * n < k → k ≤ 268435456 → n ≤ 16383
-root n k h l = let m : n < 16384 = lt-of-not-le (λ t. not-le-of-lt h (le-trans l (mul-le-mul t t))) in omega arith
+root : (n : ℕ) → n * n < 268435456 → n ≤ 16383
+root n h = let m : n < 16384 = lt-of-not-le (λ t. not-le-of-lt h (mul-le-mul t t)) in omega arith
 
-pub square-is : (k : ℕ) (z : ℤ) → ltZ (z *ℤ z) (pos k) ≡ true → k ≤ 268435456 → natAbs z ≤ 16383
-square-is k (pos n) e l = root n k (ltb-true (n * n) k e) l
-square-is k (negsuc n) e l = root (suc n) k (ltb-true (suc n * suc n) k e) l
+square-is : (z : ℤ) → ltZ (z *ℤ z) (pos 268435456) ≡ true → natAbs z ≤ 16383
+square-is (pos n) e = root n (ltb-true (n * n) 268435456 e)
+square-is (negsuc n) e = root (suc n) (ltb-true (suc n * suc n) 268435456 e)
+
+pub near-is : (t1 count : ℕ) → isNear t1 count ≡ true → Near t1 count
+near-is t1 count e = record { size = square-is (distance t1 count) e }
 
 -- two unsigned numbers near each other, and back
 near-are : (a b n : ℕ) → natAbs (pos a -ℤ pos b) ≤ n → (a ≤ b + n) × (b ≤ a + n)

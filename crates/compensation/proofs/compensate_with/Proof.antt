@@ -2,6 +2,7 @@
 use borrow.Author.Needs.{needs}
 use Rattle.laws.specs.Cases.{cases}
 use Rattle.compensation.specs.Compensation.{compensatedWords}
+use Rattle.compensation.proofs.OneAnswer.{one-reading}
 use Rattle.compensation.proofs.compensate_with.Statement.{statement}
 use Rattle.compensation.proofs.compensate_with.Tie as tie
 
@@ -12,7 +13,7 @@ returns-2 : tie.Need-returns-2
 unfolding compensatedWords
 returns-2 c =
     let s = c .before .before .before .before .before .before .before .before .before in
-    rw (c .compensate-words .ensures, s .before .before .known2 .given .1) (search cases)
+    rw (one-reading _ _ (c .compensate-words .ensures), s .before .before .known2 .given .1) (search cases)
 
 returns-3 : tie.Need-returns-3
 returns-3 c = rw (c .before .before .known2 .given .1) (search cases)

@@ -12,6 +12,7 @@ use Rattle.formula_humidity.proofs.lines.humidity.Statement.{statement}
 use Rattle.formula_humidity.proofs.lines.humidity.Tie as tie
 
 difference-is : (c : tie.After-difference) → c .difference .result ≡ run Bits32 (differenceLine (c .before .args .fine))
+unfolding differenceLine
 difference-is c = rw (toZ-ofZ (c .before .fits .fine)) at (c .difference .ensures)
 
 product-is : (c : tie.After-product) → c .product .result ≡ run Bits32 (productLine (c .before .before .before .before .before .args .words) (c .before .before .before .before .before .args .count) (c .before .before .a .given .0 .0))

@@ -1,6 +1,6 @@
 -- `humidity::plain::humidity` meets its contract: the functions give the formula's lines one after the other; where the product is not small the checked road answers.
 use Prim.Native.Nat.{_≤_}
-use mathlib.Core.Path.{refl, _∙_}
+use mathlib.Core.Path.{refl, sym, _∙_}
 use lib.IntN.{pos, natAbs, _-ℤ_, _*ℤ_}
 use mir.Syntax.{w32}
 use mir.Val.{toZ, ofZ}
@@ -13,6 +13,7 @@ use Rattle.formula_humidity.specs.Humidity.{differenceLine, levelFactor,
 use Rattle.formula.specs.Plain.{Gives}
 use Rattle.formula_humidity.specs.Plain.{Small}
 use Rattle.formula.proofs.Bounds.{local, fit, back, onto, wider, widened, word, literal, times, times-within, minus-within}
+use Rattle.formula_humidity.proofs.Ranges.{small-is}
 use Rattle.formula_humidity.proofs.plain.humidity.Statement.{statement}
 use Rattle.formula_humidity.proofs.plain.humidity.Tie as tie
 
@@ -22,8 +23,8 @@ cast-difference c = widened tt (c .fits .fine)
 difference : (s : tie.Start) → Gives Bits32 401200 (differenceLine (s .args .fine)) (local (toZ w32 (ofZ w32 (s .args .fine))) -ℤ pos 76800)
 unfolding differenceLine
 difference s =
-    minus-within (word {v = w32} (s .fits .fine) (s .pre .0 .size) refl) (literal 76800 refl) 401200
-    (rw (toZ-ofZ (s .fits .fine)) (s .pre .0 .humidity))
+    minus-within (word {v = w32} (s .fits .fine) (s .pre .usual .size) refl) (literal 76800 refl) 401200
+    (rw (toZ-ofZ (s .fits .fine)) (s .pre .usual .humidity))
     refl
 
 sub-difference : tie.Need-sub-difference
@@ -33,10 +34,10 @@ near : (s : tie.Start) → natAbs (local (local (toZ w32 (ofZ w32 (s .args .fine
 near s = rw (back (difference s)) (difference s .size)
 
 level-requires : tie.Need-level-requires
-level-requires c κs = (c .pre .1 .0, (c .pre .1 .1, near c))
+level-requires c κs = (c .pre .small, (c .pre .count-most, near c))
 
 gain-requires : tie.Need-gain-requires
-gain-requires c κs = (c .before .pre .1 .0, near (c .before))
+gain-requires c κs = (c .before .pre .small, near (c .before))
 
 -- ---- each line's number, as the next goes on from it
 
@@ -50,7 +51,7 @@ mul-product : tie.Need-mul-product
 mul-product c = fit (times (wider (level-is (c .before))) (wider (gain-is c)) refl)
 
 small : (c : tie.Then1) → Small (local (local (c .before .before .before .level .result) *ℤ local (c .before .before .gain .result)))
-small c = c .before .is-small .ensures (c .if1 .taken)
+small c = small-is _ (sym (c .before .is-small .ensures) ∙ c .if1 .taken)
 
 correct-requires : tie.Need-correct-requires
 correct-requires c κs = small c

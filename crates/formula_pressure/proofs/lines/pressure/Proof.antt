@@ -12,6 +12,7 @@ use Rattle.formula_pressure.proofs.lines.pressure.Statement.{statement}
 use Rattle.formula_pressure.proofs.lines.pressure.Tie as tie
 
 difference-is : (c : tie.After-difference) → c .difference .result ≡ run Bits64 (differenceLine (c .before .args .fine))
+unfolding differenceLine
 difference-is c = rw (toZ-ofZ (c .before .fits .fine)) at (c .difference .ensures)
 
 offset-is : (c : tie.After-offset) → c .offset .result ≡ run Bits64 (offsetLines (c .before .before .before .before .before .args .words) (c .before .before .a .given .0 .0))

@@ -1,6 +1,6 @@
 -- `pressure::plain::pressure` meets its contract: the functions give the formula's lines one after the other; where their guard does not hold the checked road answers.
 use Prim.Native.Nat.{ℕ, _≤_}
-use mathlib.Core.Path.{_≡_, refl, _∙_}
+use mathlib.Core.Path.{_≡_, refl, sym, _∙_}
 use native.Mathlib.Omega.{arith}
 use lib.IntN.{ℤ, pos, natAbs, _-ℤ_}
 use mir.Syntax.{w32, w64}
@@ -16,6 +16,7 @@ use Rattle.formula_pressure.specs.Pressure.{differenceLine, offsetLines,
 use Rattle.formula.specs.Plain.{Gives}
 use Rattle.formula_pressure.specs.Plain.{Dividing, dividendLine, divisionLine}
 use Rattle.formula.proofs.Bounds.{local, fit, back, onto, widened, word, literal, minus-within, far-is}
+use Rattle.formula_pressure.proofs.Ranges.{dividing-is}
 use Rattle.formula_pressure.proofs.plain.pressure.Statement.{statement}
 use Rattle.formula_pressure.proofs.plain.pressure.Tie as tie
 
@@ -43,8 +44,8 @@ cast-difference c = widened tt (c .fits .fine)
 difference : (s : tie.Start) → Gives Bits64 350000 (differenceLine (s .args .fine)) (local (toZ w32 (ofZ w32 (s .args .fine))) -ℤ pos 128000)
 unfolding differenceLine
 difference s =
-    minus-within (word {v = w32} (s .fits .fine) (s .pre .0 .size) refl) (literal 128000 refl) 350000
-    (rw (toZ-ofZ (s .fits .fine)) (s .pre .0 .pressure))
+    minus-within (word {v = w32} (s .fits .fine) (s .pre .usual .size) refl) (literal 128000 refl) 350000
+    (rw (toZ-ofZ (s .fits .fine)) (s .pre .usual .pressure))
     refl
 
 sub-difference : tie.Need-sub-difference
@@ -57,7 +58,7 @@ offset-requires : tie.Need-offset-requires
 offset-requires c κs = near c
 
 divisor-requires : tie.Need-divisor-requires
-divisor-requires c κs = (near (c .before), c .before .pre .1 .0)
+divisor-requires c κs = (near (c .before), c .before .pre .p1-most)
 
 -- ---- each line's number, as the next goes on from it
 
@@ -71,7 +72,10 @@ divisor-back : (c : tie.After-divisor) → local (c .divisor .result) ≡ c .div
 divisor-back c = let h : SFits w64 (c .divisor .result) = search needs in toZ-ofZ h
 
 dividing : (c : tie.Then1) → Dividing (local (c .before .before .dividend .result)) (local (c .before .before .before .divisor .result))
-dividing c = c .before .is-dividing .ensures (c .if1 .taken)
+dividing c =
+    let d = c .before .before .before in
+    let f : SFits w64 (d .divisor .result) = search needs in
+    dividing-is _ _ (rw (toZ-ofZ f) f) (sym (c .before .is-dividing .ensures) ∙ c .if1 .taken)
 
 divisor-is : (c : tie.Then1) → Gives Bits64 1073741824 (divisorLines (c .before .before .before .before .before .args .words) (local (toZ w32 (ofZ w32 (c .before .before .before .before .before .args .fine))) -ℤ pos 128000)) (c .before .before .before .divisor .result)
 divisor-is c =

@@ -1,8 +1,8 @@
--- `humidity::checked::anew` meets its contract: both cases are made again as they were.
+-- `formula::anew` meets its contract: both cases are made again as they were.
 use mathlib.Core.Path.{sym}
 use borrow.Author.Needs.{needs}
-use Rattle.formula_humidity.proofs.checked.anew.Statement.{statement}
-use Rattle.formula_humidity.proofs.checked.anew.Tie as tie
+use Rattle.formula.proofs.anew.Statement.{statement}
+use Rattle.formula.proofs.anew.Tie as tie
 
 returns : tie.Need-returns
 returns c = sym (c .before .a .given .1)

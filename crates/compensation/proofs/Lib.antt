@@ -1,0 +1,3 @@
+-- Two answers that a promise allows are equal; and what stands in a channel's place.
+pub mod OneAnswer
+pub mod Missing
