@@ -1,17 +1,18 @@
 /* Onegrish for C and firmware: what a BME280's bytes say, exactly, and which of them say nothing.
  *
- * Link libonegrish.a (`rt staticlib onegrish`, x86-64). Every function ends, allocates nothing and keeps no state.
- * A lent array is a pointer and the number of its elements; no pointer may be null, and no two of them may overlap.
+ * The library is proved: each function below does what its comment says, for all input that fits the types. It is built
+ * for x86-64 Linux alone. Link libonegrish.a (`rt staticlib onegrish`), and for the two functions over kept words
+ * libonegrish_words.a (`rt staticlib onegrish_words`).
  *
- * Each function but onegrish_polls answers one of the paper's numbers:
- *   0 done                                     10 channel skipped
- *   2 wrong length                             11 no temperature to compensate with
- *   4 address not allowed                      12 a step left its type
- *   7 a setting code out of range              13 divisor zero
- *   9 lent buffer too short for the output     14 pressure negative or above 4,294,967,295
- *   15 no pair, or more than 16                16 bus bytes of the wrong shape
- *   17 never ready within the polls allowed
- * Nothing is written but on 0, and elements past the output stay as they were.
+ * Every function ends, allocates nothing, keeps no state and calls nothing. Any number of threads may call it.
+ *
+ * A lent array is a pointer and the number of its elements. With 0 elements the pointer may be null: nothing is read or
+ * written through it. Any other pointer must be valid for as many elements as its number says, and what a function
+ * writes must not overlap anything else that it is lent. A pointer with no number beside it must be valid for one element.
+ *
+ * Each function but onegrish_version and onegrish_polls answers one of the numbers below. Nothing is written unless it
+ * answers ONEGRISH_DONE, and elements past the output stay as they were. Where several numbers would fit, the first in
+ * the order that the function's comment gives is answered.
  */
 #ifndef ONEGRISH_H
 #define ONEGRISH_H
@@ -23,50 +24,158 @@
 extern "C" {
 #endif
 
-/* The chip's words out of block one (0x88 to 0xA1) and block two (0xE1 to 0xE7):
- * T1 to T3, P1 to P9, H1 to H6, at the front of words.
- * 2: the blocks are not 26 and 7 bytes long.   9: fewer than 18 words are lent. */
-uint8_t onegrish_words(const uint8_t *one, size_t one_length, const uint8_t *two, size_t two_length,
-                       int32_t *words, size_t words_length);
+/* The version of this interface. It goes up by one where a function changes or goes. */
+#define ONEGRISH_VERSION 2
 
-/* One reading out of both blocks, the eight bytes 0xF7 to 0xFE and the codes of temperature, pressure and humidity.
- * numbers[0..2]: 0 or 10 to 14 for temperature, pressure, humidity.
- * values[0]: temperature in hundredths of a degree;  values[1]: the fine temperature;
- * values[2]: pressure in Pa times 256;               values[3]: humidity in %RH times 1024.
- * A channel whose number is not 0 leaves its values as they were: look at its number first.
- * 2: not 26, 7 and 8 bytes.   7: a code above 7.   9: fewer than 3 numbers or 4 values are lent. */
+/* The version that the library was built with. Compare it with ONEGRISH_VERSION before anything else. */
+uint32_t onegrish_version(void);
+
+/* ---- the numbers that are answered */
+
+#define ONEGRISH_DONE 0                 /* done */
+#define ONEGRISH_WRONG_LENGTH 2         /* not 26 and 7 calibration bytes, 8 data bytes or 18 words */
+#define ONEGRISH_ADDRESS_NOT_ALLOWED 4  /* a device's address or a register */
+#define ONEGRISH_OUT_OF_RANGE 7         /* an oversampling code above 7, or a kept word that its type can't hold */
+#define ONEGRISH_BUFFER_TOO_SHORT 9     /* fewer elements lent than the output has */
+#define ONEGRISH_PAIRS_OUTSIDE 15       /* no pair, an odd number of bytes, or more than 16 pairs */
+#define ONEGRISH_WRONG_SHAPE 16         /* bus bytes of the wrong shape */
+#define ONEGRISH_NEVER_READY 17         /* never ready within the polls allowed */
+
+/* ---- the numbers that stand in a channel's place, in `numbers`; no function answers them */
+
+#define ONEGRISH_SKIPPED 10             /* the channel's code is 0 */
+#define ONEGRISH_NO_TEMPERATURE 11      /* there is no temperature to compensate with */
+#define ONEGRISH_LEFT_ITS_TYPE 12       /* a step of the maker's formula left its type */
+#define ONEGRISH_DIVISOR_ZERO 13        /* the pressure's divisor is zero */
+#define ONEGRISH_PRESSURE_OUTSIDE 14    /* a pressure that is negative or above 4,294,967,295 */
+
+/* ---- lengths */
+
+#define ONEGRISH_BLOCK_ONE 26   /* bytes of calibration block one, registers 0x88 to 0xA1 */
+#define ONEGRISH_BLOCK_TWO 7    /* bytes of calibration block two, registers 0xE1 to 0xE7 */
+#define ONEGRISH_DATA 8         /* data bytes, registers 0xF7 to 0xFE */
+#define ONEGRISH_WORDS 18       /* words of a chip */
+#define ONEGRISH_NUMBERS 3      /* numbers of a reading: temperature, pressure, humidity */
+#define ONEGRISH_VALUES 4       /* values of a reading: temperature, fine temperature, pressure, humidity */
+#define ONEGRISH_MOST_PAIRS 16  /* pairs of register and value in one message */
+#define ONEGRISH_LONGEST 33     /* bytes of the longest message: the address and 16 pairs on I2C */
+#define ONEGRISH_I2C_READ 3     /* bytes of both messages of an I2C read; the first is ONEGRISH_I2C_READ_FIRST long */
+#define ONEGRISH_I2C_READ_FIRST 2
+#define ONEGRISH_SPI_READ 1     /* bytes of an SPI read */
+
+/* ---- places in words, numbers and values */
+
+enum {
+    ONEGRISH_T1, ONEGRISH_T2, ONEGRISH_T3,
+    ONEGRISH_P1, ONEGRISH_P2, ONEGRISH_P3, ONEGRISH_P4, ONEGRISH_P5, ONEGRISH_P6, ONEGRISH_P7, ONEGRISH_P8, ONEGRISH_P9,
+    ONEGRISH_H1, ONEGRISH_H2, ONEGRISH_H3, ONEGRISH_H4, ONEGRISH_H5, ONEGRISH_H6
+};
+enum { ONEGRISH_NUMBER_T, ONEGRISH_NUMBER_P, ONEGRISH_NUMBER_H };
+enum { ONEGRISH_VALUE_T, ONEGRISH_VALUE_FINE, ONEGRISH_VALUE_P, ONEGRISH_VALUE_H };
+
+/* ---- addresses and codes of the device */
+
+#define ONEGRISH_I2C_LOW 0x76   /* the I2C address with SDO low, and with SDO high */
+#define ONEGRISH_I2C_HIGH 0x77
+#define ONEGRISH_REGISTER_BLOCK_ONE 0x88
+#define ONEGRISH_REGISTER_CHIP_ID 0xD0
+#define ONEGRISH_REGISTER_RESET 0xE0
+#define ONEGRISH_REGISTER_BLOCK_TWO 0xE1
+#define ONEGRISH_REGISTER_CTRL_HUM 0xF2
+#define ONEGRISH_REGISTER_STATUS 0xF3
+#define ONEGRISH_REGISTER_CTRL_MEAS 0xF4
+#define ONEGRISH_REGISTER_CONFIG 0xF5
+#define ONEGRISH_REGISTER_DATA 0xF7
+#define ONEGRISH_CHIP_ID 0x60       /* what the chip id register gives */
+#define ONEGRISH_RESET_WORD 0xB6    /* what the reset register takes */
+#define ONEGRISH_STATUS_RUNNING 8   /* bits of the status register: a conversion runs; calibration is being copied */
+#define ONEGRISH_STATUS_COPYING 1
+#define ONEGRISH_CODE_SKIPPED 0     /* oversampling codes: 1 to 5 mean 1, 2, 4, 8 and 16 samples; 6 and 7 mean 16 too */
+#define ONEGRISH_CODE_1 1
+#define ONEGRISH_CODE_2 2
+#define ONEGRISH_CODE_4 3
+#define ONEGRISH_CODE_8 4
+#define ONEGRISH_CODE_16 5
+
+/* ---- readings */
+
+/* Compensates one reading, out of both calibration blocks, the eight data bytes and the oversampling codes with which that
+ * conversion began, in the order temperature, pressure, humidity.
+ *
+ * ONEGRISH_WRONG_LENGTH: not 26, 7 and 8 bytes.  ONEGRISH_OUT_OF_RANGE: a code above 7.
+ * ONEGRISH_BUFFER_TOO_SHORT: fewer than 3 numbers or 4 values are lent.
+ * ONEGRISH_DONE: numbers[0..2] say of temperature, pressure and humidity whether there is a value (ONEGRISH_DONE) or what
+ * stands in its place (ONEGRISH_SKIPPED to ONEGRISH_PRESSURE_OUTSIDE). The values are
+ *   values[0]  the temperature in hundredths of a degree Celsius     values[1]  the fine temperature, which goes with it
+ *   values[2]  the pressure in Pa times 256                          values[3]  the humidity in %RH times 1024
+ * A channel whose number is not ONEGRISH_DONE leaves its values as they were: look at its number first.
+ * A value is the maker's formula over whole numbers, every step exact. Where temperature has no value, the other enabled
+ * channels are ONEGRISH_NO_TEMPERATURE. A count of 0x80000 or 0x8000 is a count like any other: code 0 alone means skipped. */
 uint8_t onegrish_compensate(const uint8_t *one, size_t one_length, const uint8_t *two, size_t two_length,
                             const uint8_t *bytes, size_t bytes_length, uint8_t t, uint8_t p, uint8_t h,
                             uint8_t *numbers, size_t numbers_length, int64_t *values, size_t values_length);
 
+/* The words of a chip, at the front of words, out of both calibration blocks: T1 to T3, P1 to P9, H1 to H6. Keep them, and
+ * onegrish_compensate_words takes them. T1 and P1 have no sign: read them as (uint16_t)words[ONEGRISH_T1] and
+ * (uint16_t)words[ONEGRISH_P1]. In libonegrish_words.a.
+ *
+ * ONEGRISH_WRONG_LENGTH: not 26 and 7 bytes.  ONEGRISH_BUFFER_TOO_SHORT: fewer than 18 words are lent.  ONEGRISH_DONE. */
+uint8_t onegrish_words(const uint8_t *one, size_t one_length, const uint8_t *two, size_t two_length,
+                       int16_t *words, size_t words_length);
+
+/* Compensates one reading with the words that onegrish_words gave. With the words of two blocks it answers and writes what
+ * onegrish_compensate does with those blocks. In libonegrish_words.a.
+ *
+ * ONEGRISH_WRONG_LENGTH: not 18 words and 8 bytes.  ONEGRISH_OUT_OF_RANGE: H1 or H3 is not 0 to 255, H6 not -128 to 127
+ * (onegrish_words gives no such words), or a code is above 7.  ONEGRISH_BUFFER_TOO_SHORT, ONEGRISH_DONE: as above. */
+uint8_t onegrish_compensate_words(const int16_t *words, size_t words_length, const uint8_t *bytes, size_t bytes_length,
+                                  uint8_t t, uint8_t p, uint8_t h, uint8_t *numbers, size_t numbers_length,
+                                  int64_t *values, size_t values_length);
+
+/* ---- waiting */
+
 /* The microseconds that a conversion with these codes takes at most, and typically.
- * 7: a code above 7. */
+ * ONEGRISH_OUT_OF_RANGE: a code above 7.  ONEGRISH_DONE. */
 uint8_t onegrish_maximum_wait(uint8_t t, uint8_t p, uint8_t h, uint32_t *microseconds);
 uint8_t onegrish_typical_wait(uint8_t t, uint8_t p, uint8_t h, uint32_t *microseconds);
 
-/* The place of the first status byte with bits 3 and 0 clear, among as many as the allowance lets be read.
- * 17: there is none. */
+/* The place of the first ready status byte, one with bits 3 and 0 clear, among as many as the allowance lets be read.
+ * ONEGRISH_NEVER_READY: there is none.  ONEGRISH_DONE. */
 uint8_t onegrish_poll(const uint8_t *status, size_t status_length, size_t allowance, size_t *place);
 
-/* The polls that this takes: place plus one, or on 17 the smaller of the two limits. It answers no number. */
+/* The polls that this takes: place plus one, or where none is ready the smaller of status_length and allowance. */
 size_t onegrish_polls(const uint8_t *status, size_t status_length, size_t allowance);
 
-/* The message that writes pairs of register and value, at the front of lent, and its length.
- * 4: the device's address (I2C: 0x76 or 0x77).   15: no pair, an odd byte, or more than 16 pairs.
- * 4: a register that can't be written (F2, F4, F5, E0 can).   9. */
+/* ---- bus bytes */
+
+/* The message that writes pairs of register and value, at the front of lent, and its length. On I2C that is the address
+ * doubled and then the pairs; on SPI each register has bit 7 clear.
+ *
+ * ONEGRISH_ADDRESS_NOT_ALLOWED: the device's address is not 0x76 or 0x77.
+ * ONEGRISH_PAIRS_OUTSIDE: no pair, an odd number of bytes, or more than 16 pairs.
+ * ONEGRISH_ADDRESS_NOT_ALLOWED: a register that can't be written (0xE0, 0xF2, 0xF4 and 0xF5 can).
+ * ONEGRISH_BUFFER_TOO_SHORT: fewer bytes are lent than the message has.  ONEGRISH_DONE. */
 uint8_t onegrish_i2c_write(uint8_t address, const uint8_t *pairs, size_t pairs_length,
                            uint8_t *lent, size_t lent_length, size_t *length);
 uint8_t onegrish_spi_write(const uint8_t *pairs, size_t pairs_length,
                            uint8_t *lent, size_t lent_length, size_t *length);
 
-/* The message that reads from a register on, at the front of lent, and its length; on I2C both messages, one after the other.
- * 4: the device's address.   4: a register below 0x80.   9. */
+/* The message that reads from a register on, at the front of lent, and its length. An I2C read is two messages, one after
+ * the other in lent: lent[0] and lent[1], the address doubled and the register; then, after a stop or a repeated start,
+ * lent[2], the address doubled plus one. On SPI it is one byte, the register with bit 7 set.
+ *
+ * ONEGRISH_ADDRESS_NOT_ALLOWED: the device's address is not 0x76 or 0x77, or the register is below 0x80.
+ * ONEGRISH_BUFFER_TOO_SHORT: fewer than 3 bytes on I2C or 1 on SPI are lent.  ONEGRISH_DONE. */
 uint8_t onegrish_i2c_read(uint8_t address, uint8_t reg, uint8_t *lent, size_t lent_length, size_t *length);
 uint8_t onegrish_spi_read(uint8_t reg, uint8_t *lent, size_t lent_length, size_t *length);
 
-/* The pairs that a write carries, at the front of lent, and their length; on I2C the device's address too.
- * 16: empty, an odd byte, a first I2C byte other than EC or EE, or an SPI register byte with bit 7 set.
- * 15: no pair, or more than 16.   4: a register that can't be written.   9. */
+/* The pairs that a write message carries, at the front of lent, and their length; on I2C the device's address too. On SPI
+ * each register gets bit 7 again.
+ *
+ * ONEGRISH_WRONG_SHAPE: no byte; an odd number of bytes after the I2C address or on SPI; a first I2C byte other than 0xEC
+ * or 0xEE; an SPI register byte with bit 7 set.  ONEGRISH_PAIRS_OUTSIDE: no pair, or more than 16.
+ * ONEGRISH_ADDRESS_NOT_ALLOWED: a register that can't be written.
+ * ONEGRISH_BUFFER_TOO_SHORT: fewer bytes are lent than the pairs have.  ONEGRISH_DONE. */
 uint8_t onegrish_i2c_decode(const uint8_t *bytes, size_t bytes_length,
                             uint8_t *lent, size_t lent_length, uint8_t *address, size_t *length);
 uint8_t onegrish_spi_decode(const uint8_t *bytes, size_t bytes_length,

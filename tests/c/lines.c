@@ -1,5 +1,5 @@
 /* Answers the bench's lines on words, readings, waits, polls and bus bytes through the library for C, so that its answers can be
- * held to the second program's. Lines come well formed, with codes and bytes in their types; tests/c/run picks such lines. */
+ * held to the second program's. A reading is asked for twice, from the blocks and with their words kept. Lines come well formed, with codes and bytes in their types; tests/c/run picks such lines. */
 #include <stdio.h>
 
 #include "onegrish.h"
@@ -37,31 +37,58 @@ static void print_buffer(const uint8_t *lent, size_t room) {
 }
 
 static void answer_cal(char **w) {
-    static const char *names[18] = {"T1", "T2", "T3", "P1", "P2", "P3", "P4", "P5", "P6",
-                                    "P7", "P8", "P9", "H1", "H2", "H3", "H4", "H5", "H6"};
+    static const char *names[ONEGRISH_WORDS] = {"T1", "T2", "T3", "P1", "P2", "P3", "P4", "P5", "P6",
+                                                "P7", "P8", "P9", "H1", "H2", "H3", "H4", "H5", "H6"};
     uint8_t one[LINE], two[LINE];
-    int32_t words[18];
+    int16_t words[ONEGRISH_WORDS];
     size_t n = bytes_of(w[1], one), m = bytes_of(w[2], two);
-    unsigned answer = onegrish_words(one, n, two, m, words, 18);
+    unsigned answer = onegrish_words(one, n, two, m, words, ONEGRISH_WORDS);
     printf("%u", answer);
-    for (int i = 0; answer == 0 && i < 18; i++) printf(" %s=%d", names[i], words[i]);
+    for (int i = 0; answer == 0 && i < ONEGRISH_WORDS; i++)
+        printf(" %s=%d", names[i], i == ONEGRISH_T1 || i == ONEGRISH_P1 ? (uint16_t)words[i] : words[i]);
     putchar('\n');
 }
 
+/* A reading: what was answered, and the lent places afterwards. */
+struct reading {
+    uint8_t answer, numbers[ONEGRISH_NUMBERS];
+    int64_t values[ONEGRISH_VALUES];
+};
+
+/* The same reading with the words of the blocks, kept. */
+static struct reading by_words(const uint8_t *one, size_t n, const uint8_t *two, size_t m, const uint8_t *bytes, size_t k,
+                               uint8_t t, uint8_t p, uint8_t h) {
+    struct reading r = {0, {99, 99, 99}, {-1, -1, -1, -1}};
+    int16_t words[ONEGRISH_WORDS];
+    r.answer = onegrish_words(one, n, two, m, words, ONEGRISH_WORDS);
+    if (r.answer == 0)
+        r.answer = onegrish_compensate_words(words, ONEGRISH_WORDS, bytes, k, t, p, h, r.numbers, 3, r.values, 4);
+    return r;
+}
+
+static int are_same(const struct reading *a, const struct reading *b) {
+    int same = a->answer == b->answer;
+    for (int i = 0; i < ONEGRISH_NUMBERS; i++) same &= a->numbers[i] == b->numbers[i];
+    for (int i = 0; i < ONEGRISH_VALUES; i++) same &= a->values[i] == b->values[i];
+    return same;
+}
+
 static void answer_comp(char **w) {
-    uint8_t one[LINE], two[LINE], bytes[LINE], numbers[3];
-    int64_t values[4];
+    uint8_t one[LINE], two[LINE], bytes[LINE];
+    struct reading r = {0, {99, 99, 99}, {-1, -1, -1, -1}}, kept;
     size_t n = bytes_of(w[1], one), m = bytes_of(w[2], two), k = bytes_of(w[3], bytes);
-    unsigned answer = onegrish_compensate(one, n, two, m, bytes, k, (uint8_t)number_of(w[4]), (uint8_t)number_of(w[5]),
-                                          (uint8_t)number_of(w[6]), numbers, 3, values, 4);
-    printf("%u", answer);
-    if (answer == 0) {
-        if (numbers[0]) printf(" t!%u", numbers[0]);
-        else printf(" t=%lld fine=%lld", (long long)values[0], (long long)values[1]);
-        if (numbers[1]) printf(" p!%u", numbers[1]);
-        else printf(" p=%lld", (long long)values[2]);
-        if (numbers[2]) printf(" h!%u", numbers[2]);
-        else printf(" h=%lld", (long long)values[3]);
+    uint8_t t = (uint8_t)number_of(w[4]), p = (uint8_t)number_of(w[5]), h = (uint8_t)number_of(w[6]);
+    r.answer = onegrish_compensate(one, n, two, m, bytes, k, t, p, h, r.numbers, 3, r.values, 4);
+    kept = by_words(one, n, two, m, bytes, k, t, p, h);
+    if (!are_same(&r, &kept)) printf("with kept words otherwise: ");
+    printf("%u", r.answer);
+    if (r.answer == 0) {
+        if (r.numbers[0]) printf(" t!%u", r.numbers[0]);
+        else printf(" t=%lld fine=%lld", (long long)r.values[0], (long long)r.values[1]);
+        if (r.numbers[1]) printf(" p!%u", r.numbers[1]);
+        else printf(" p=%lld", (long long)r.values[2]);
+        if (r.numbers[2]) printf(" h!%u", r.numbers[2]);
+        else printf(" h=%lld", (long long)r.values[3]);
     }
     putchar('\n');
 }
