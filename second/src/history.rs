@@ -1,4 +1,4 @@
-//! What happened, one after another, and what can be told from it by looking back.
+//! What happened, one after another, and what looking back along it finds.
 //!
 //! A moment is a place in the list; looking back from it sees what stands before it.
 

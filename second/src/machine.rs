@@ -29,7 +29,7 @@ pub struct Closing {
     pub before: bool,
 }
 
-/// The machine. What is shown, waits or runs is told from its record.
+/// The machine. What is shown, waits or runs is found in its record.
 #[derive(Clone, Debug)]
 pub struct Machine {
     phase: Phase,
@@ -124,7 +124,7 @@ impl Machine {
     }
 
     /// Makes the state fresh but for the record, which goes on.
-    /// What was running, waiting or shown is told from the record.
+    /// What was running, waiting or shown is found in the record.
     fn reset(&mut self) {
         self.record.add(Happening::Reset);
         let record = std::mem::replace(&mut self.record, Record::fresh(0));

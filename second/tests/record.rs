@@ -84,8 +84,8 @@ fn folding_changes_nothing() {
                 assert_eq!(record.ledger(), count(&whole, record.begun()));
                 if let Some(shown) = record.shown() {
                     let number = shown.conversion.number;
-                    let told = deliveries(&whole).iter().any(|one| one.number == number);
-                    assert_eq!(record.delivered(number), told);
+                    let found = deliveries(&whole).iter().any(|one| one.number == number);
+                    assert_eq!(record.delivered(number), found);
                 }
             }
         }
