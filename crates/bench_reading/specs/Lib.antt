@@ -1,3 +1,2 @@
 -- The answers of cal and comp.
-pub mod Words
 pub mod Reading

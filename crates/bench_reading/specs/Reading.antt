@@ -1,6 +1,7 @@
 -- cal: a chip's words. comp: `0 t=.. fine=.. p=.. h=..`, with `t!N`, `p!N`, `h!N` for a channel that has a number in its place, or the number that refuses it.
 use Prim.Native.Nat.{ℕ}
-use mathlib.Core.List.{List, _∷_}
+use mathlib.Core.List.{List, [], _∷_, _++_}
+use lib.IntN.{ℤ, pos}
 use Rattle.paper.specs.Numbers.{done}
 use Rattle.calibration.specs.Calibration.{calibrated}
 use Rattle.formula.specs.declared.TemperatureAnswer.{TemperatureAnswer}
@@ -12,42 +13,41 @@ use Rattle.compensation.specs.declared.Answer.the-variants.{Done, Refused}
 use Rattle.compensation.specs.declared.Reading.{Reading}
 use Rattle.compensation.specs.Compensation.{compensated}
 use Rattle.bench_page.specs.Page.{letters}
-use Rattle.bench_row.specs.declared.Cell.{Cell}
-use Rattle.bench_row.specs.declared.Cell.the-variants.{Absent, Missing, Number, Signed}
-use Rattle.bench_row.specs.Row.{filled, absent, refused}
-use Rattle.bench_reading.specs.Words.{calibration}
+use Rattle.bench_page.specs.Digits.{decimal}
+use Rattle.bench_row.specs.Row.{filled, filledSigned}
+use Rattle.bench_calibration.specs.Words.{calibration}
 
 abbrev pub cal : List ℕ → List ℕ → List ℕ
-cal one two = calibration (calibrated one two)
-
-abbrev pub temperatureCell : TemperatureAnswer → Cell
-temperatureCell (heat.Known value fine) = Signed value
-temperatureCell (heat.Missing missing) = Missing (missing .number)
+cal first second = calibration (calibrated first second)
 
 -- the fine temperature goes with the temperature
-abbrev pub fineCell : TemperatureAnswer → Cell
-fineCell (heat.Known value fine) = Signed fine
-fineCell (heat.Missing missing) = Absent
+abbrev pub known : ℤ → ℤ → List ℕ
+known value fine = filledSigned (letters "# t=# fine=#") (pos done ∷ value ∷ fine ∷ [])
 
-abbrev pub channelCell : ChannelAnswer → Cell
-channelCell (channel.Known value) = Number value
-channelCell (channel.Missing missing) = Missing (missing .number)
+abbrev pub missing : ℕ → List ℕ
+missing number = filled (letters "# t!#") (done ∷ number ∷ [])
 
-unfoldable pub readingRow : Reading → List Cell
-readingRow r =
-    Number done
-    ∷ temperatureCell (r .temperature)
-    ∷ fineCell (r .temperature)
-    ∷ channelCell (r .pressure)
-    ∷ channelCell (r .humidity)
-    ∷ absent 4
+abbrev pub temperature : TemperatureAnswer → List ℕ
+temperature (heat.Known value fine) = known value fine
+temperature (heat.Missing m) = missing (m .number)
 
-abbrev pub answerRow : Answer → List Cell
-answerRow (Refused number) = refused number
-answerRow (Done r) = readingRow r
+abbrev pub one : List ℕ → ℕ → List ℕ
+one form n = filled form (n ∷ [])
+
+abbrev pub pressure : ChannelAnswer → List ℕ
+pressure (channel.Known value) = one (letters " p=#") value
+pressure (channel.Missing m) = one (letters " p!#") (m .number)
+
+abbrev pub humidity : ChannelAnswer → List ℕ
+humidity (channel.Known value) = one (letters " h=#") value
+humidity (channel.Missing m) = one (letters " h!#") (m .number)
+
+unfoldable pub reading : Reading → List ℕ
+reading r = temperature (r .temperature) ++ (pressure (r .pressure) ++ humidity (r .humidity))
 
 abbrev pub answered : Answer → List ℕ
-answered a = filled (letters "# t=# fine=# p=# h=#") (answerRow a) 0
+answered (Refused number) = decimal number
+answered (Done r) = reading r
 
 abbrev pub comp : List ℕ → List ℕ → List ℕ → ℕ → ℕ → ℕ → List ℕ
-comp one two bytes t p h = answered (compensated one two bytes t p h)
+comp first second bytes t p h = answered (compensated first second bytes t p h)

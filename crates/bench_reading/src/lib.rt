@@ -2,10 +2,6 @@
 ghost use mathlib.Core.Path.{_≡_};
 ghost use Rattle.bench_page.specs.Page.{_▹_};
 ghost use Rattle.bench_reading.specs.Reading as text;
-
-mod words; // cal
-
-use bench_row::Cell;
 use compensation::Answer;
 use compensation::Reading;
 use formula::ChannelAnswer;
@@ -15,7 +11,7 @@ use formula::TemperatureAnswer;
 pub fn cal(one: &[u8], two: &[u8], out: &mut [u8], at: usize) -> usize
     ensures { λ r. ⌜ (now (out .exit), r) ≡ (now (out .entry), at) ▹ text.cal (now (one .entry)) (now (two .entry)) ⌝ }
 {
-    words::write_calibration(calibration::calibrate(one, two), out, at)
+    bench_calibration::write_calibration(calibration::calibrate(one, two), out, at)
 }
 
 // Writes the reading of two blocks and the data bytes at three codes, or the number that refuses it.
@@ -34,70 +30,75 @@ pub fn comp(
     write_answer(compensation::compensate(one, two, bytes, t, p, h), out, at)
 }
 
-// Writes an answer.
+// Writes a reading, or the number that refuses it.
 fn write_answer(answer: Answer, out: &mut [u8], at: usize) -> usize
     ensures { λ r. ⌜ (now (out .exit), r) ≡ (now (out .entry), at) ▹ text.answered answer ⌝ }
 {
-    bench_row::fill(b"# t=# fine=# p=# h=#", answer_row(answer), out, at)
-}
-
-// The row of a reading, or of the number that refuses it.
-fn answer_row(answer: Answer) -> [Cell; 9]
-    ensures { λ r. ⌜ r ≡ text.answerRow answer ⌝ }
-{
     match answer {
-        Answer::Refused(number) => bench_row::refused(number),
-        Answer::Done(reading) => reading_row(reading),
+        Answer::Refused(number) => bench_page::write_decimal(number as u64, out, at),
+        Answer::Done(reading) => write_reading(reading, out, at),
     }
 }
 
-// The cells of the three channels, with the fine temperature beside the temperature.
-fn reading_row(reading: Reading) -> [Cell; 9]
-    ensures { λ r. ⌜ r ≡ text.readingRow reading ⌝ }
+// Writes the three channels, after the number that says there is a reading.
+fn write_reading(reading: Reading, out: &mut [u8], at: usize) -> usize
+    ensures { λ r. ⌜ (now (out .exit), r) ≡ (now (out .entry), at) ▹ text.reading reading ⌝ }
 {
     let t = reading.temperature;
     let p = reading.pressure;
     let h = reading.humidity;
-    let n = Cell::Absent;
-    [
-        Cell::Number(paper::DONE as u64),
-        temperature_cell(t),
-        fine_cell(t),
-        channel_cell(p),
-        channel_cell(h),
-        n,
-        n,
-        n,
-        n,
-    ]
+    let a = write_temperature(t, out, at);
+    let b = write_pressure(p, out, a);
+    write_humidity(h, out, b)
 }
 
-// The cell of a temperature.
-fn temperature_cell(channel: TemperatureAnswer) -> Cell
-    ensures { λ r. ⌜ r ≡ text.temperatureCell channel ⌝ }
+// Writes a temperature with its fine temperature, or the number in their place.
+fn write_temperature(channel: TemperatureAnswer, out: &mut [u8], at: usize) -> usize
+    ensures { λ r. ⌜ (now (out .exit), r) ≡ (now (out .entry), at) ▹ text.temperature channel ⌝ }
 {
     match channel {
-        TemperatureAnswer::Known { value, fine: _ } => Cell::Signed(value),
-        TemperatureAnswer::Missing(missing) => Cell::Missing(missing.number),
+        TemperatureAnswer::Known { value, fine } => write_known(value, fine, out, at),
+        TemperatureAnswer::Missing(missing) => write_missing(missing.number, out, at),
     }
 }
 
-// The cell of a fine temperature, which goes with the temperature.
-fn fine_cell(channel: TemperatureAnswer) -> Cell
-    ensures { λ r. ⌜ r ≡ text.fineCell channel ⌝ }
+// Writes a temperature with its fine temperature.
+fn write_known(value: i32, fine: i32, out: &mut [u8], at: usize) -> usize
+    ensures { λ r. ⌜ (now (out .exit), r) ≡ (now (out .entry), at) ▹ text.known value fine ⌝ }
+{
+    bench_row::fill_signed(b"# t=# fine=#", &[paper::DONE as i32, value, fine], out, at)
+}
+
+// Writes the number in a temperature's place.
+fn write_missing(number: u8, out: &mut [u8], at: usize) -> usize
+    ensures { λ r. ⌜ (now (out .exit), r) ≡ (now (out .entry), at) ▹ text.missing number ⌝ }
+{
+    bench_row::fill(b"# t!#", &[paper::DONE as u64, number as u64], out, at)
+}
+
+// Writes a pressure, or the number in its place.
+fn write_pressure(channel: ChannelAnswer, out: &mut [u8], at: usize) -> usize
+    ensures { λ r. ⌜ (now (out .exit), r) ≡ (now (out .entry), at) ▹ text.pressure channel ⌝ }
 {
     match channel {
-        TemperatureAnswer::Known { value: _, fine } => Cell::Signed(fine),
-        TemperatureAnswer::Missing(_) => Cell::Absent,
+        ChannelAnswer::Known(value) => write_number(b" p=#", value as u64, out, at),
+        ChannelAnswer::Missing(missing) => write_number(b" p!#", missing.number as u64, out, at),
     }
 }
 
-// The cell of a pressure or a humidity.
-fn channel_cell(channel: ChannelAnswer) -> Cell
-    ensures { λ r. ⌜ r ≡ text.channelCell channel ⌝ }
+// Writes a humidity, or the number in its place.
+fn write_humidity(channel: ChannelAnswer, out: &mut [u8], at: usize) -> usize
+    ensures { λ r. ⌜ (now (out .exit), r) ≡ (now (out .entry), at) ▹ text.humidity channel ⌝ }
 {
     match channel {
-        ChannelAnswer::Known(value) => Cell::Number(value as u64),
-        ChannelAnswer::Missing(missing) => Cell::Missing(missing.number),
+        ChannelAnswer::Known(value) => write_number(b" h=#", value as u64, out, at),
+        ChannelAnswer::Missing(missing) => write_number(b" h!#", missing.number as u64, out, at),
     }
+}
+
+// Writes a form that has one number.
+fn write_number(form: &[u8], n: u64, out: &mut [u8], at: usize) -> usize
+    ensures { λ r. ⌜ (now (out .exit), r) ≡ (now (out .entry), at) ▹ text.one (now (form .entry)) n ⌝ }
+{
+    bench_row::fill(form, &[n], out, at)
 }

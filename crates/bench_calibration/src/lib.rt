@@ -1,8 +1,7 @@
-// The words of two blocks, as text.
+// A chip's words, as text.
 ghost use mathlib.Core.Path.{_≡_};
 ghost use Rattle.bench_page.specs.Page.{_▹_};
-ghost use Rattle.bench_reading.specs.Words as text;
-use bench_row::Cell;
+ghost use Rattle.bench_calibration.specs.Words as text;
 use calibration::Calibration;
 use calibration::HumidityWords;
 use calibration::PressureWords;
@@ -23,32 +22,18 @@ pub fn write_calibration(known: Calibration, out: &mut [u8], at: usize) -> usize
 fn write_words(w: Words, out: &mut [u8], at: usize) -> usize
     ensures { λ r. ⌜ (now (out .exit), r) ≡ (now (out .entry), at) ▹ text.words w ⌝ }
 {
-    let temperature = w.temperature;
-    let pressure = w.pressure;
-    let humidity = w.humidity;
-    let a = write_temperature(temperature, out, at);
-    let b = write_pressure(pressure, out, a);
-    write_humidity(humidity, out, b)
+    let a = write_temperature(w.temperature, out, at);
+    let b = write_pressure(w.pressure, out, a);
+    write_humidity(w.humidity, out, b)
 }
 
 // Writes T1 to T3, after the number that says they are known.
 fn write_temperature(w: TemperatureWords, out: &mut [u8], at: usize) -> usize
     ensures { λ r. ⌜ (now (out .exit), r) ≡ (now (out .entry), at) ▹ text.temperature w ⌝ }
 {
-    let n = Cell::Absent;
-    bench_row::fill(
+    bench_row::fill_signed(
         b"# T1=# T2=# T3=#",
-        [
-            Cell::Number(paper::DONE as u64),
-            Cell::Number(w.t1 as u64),
-            Cell::Word(w.t2),
-            Cell::Word(w.t3),
-            n,
-            n,
-            n,
-            n,
-            n,
-        ],
+        &[paper::DONE as i32, w.t1 as i32, w.t2 as i32, w.t3 as i32],
         out,
         at,
     )
@@ -58,18 +43,18 @@ fn write_temperature(w: TemperatureWords, out: &mut [u8], at: usize) -> usize
 fn write_pressure(w: PressureWords, out: &mut [u8], at: usize) -> usize
     ensures { λ r. ⌜ (now (out .exit), r) ≡ (now (out .entry), at) ▹ text.pressure w ⌝ }
 {
-    bench_row::fill(
+    bench_row::fill_signed(
         b" P1=# P2=# P3=# P4=# P5=# P6=# P7=# P8=# P9=#",
-        [
-            Cell::Number(w.p1 as u64),
-            Cell::Word(w.p2),
-            Cell::Word(w.p3),
-            Cell::Word(w.p4),
-            Cell::Word(w.p5),
-            Cell::Word(w.p6),
-            Cell::Word(w.p7),
-            Cell::Word(w.p8),
-            Cell::Word(w.p9),
+        &[
+            w.p1 as i32,
+            w.p2 as i32,
+            w.p3 as i32,
+            w.p4 as i32,
+            w.p5 as i32,
+            w.p6 as i32,
+            w.p7 as i32,
+            w.p8 as i32,
+            w.p9 as i32,
         ],
         out,
         at,
@@ -80,19 +65,15 @@ fn write_pressure(w: PressureWords, out: &mut [u8], at: usize) -> usize
 fn write_humidity(w: HumidityWords, out: &mut [u8], at: usize) -> usize
     ensures { λ r. ⌜ (now (out .exit), r) ≡ (now (out .entry), at) ▹ text.humidity w ⌝ }
 {
-    let n = Cell::Absent;
-    bench_row::fill(
+    bench_row::fill_signed(
         b" H1=# H2=# H3=# H4=# H5=# H6=#",
-        [
-            Cell::Number(w.h1 as u64),
-            Cell::Word(w.h2),
-            Cell::Number(w.h3 as u64),
-            Cell::Word(w.h4),
-            Cell::Word(w.h5),
-            Cell::Octet(w.h6),
-            n,
-            n,
-            n,
+        &[
+            w.h1 as i32,
+            w.h2 as i32,
+            w.h3 as i32,
+            w.h4 as i32,
+            w.h5 as i32,
+            w.h6 as i32,
         ],
         out,
         at,

@@ -1,0 +1,2 @@
+-- A chip's words as text.
+pub mod Words
