@@ -45,7 +45,7 @@ pub fn compensate(one: &[u8], two: &[u8], bytes: &[u8], t: u8, p: u8, h: u8) -> 
 // The same with the words that the blocks gave, or with what refused them.
 // After the length check the eight bytes go by value.
 pub fn compensate_with(known: Calibration, bytes: &[u8], t: u8, p: u8, h: u8) -> Answer
-    ensures { λ r. ⌜ r ≡ comp.compensatedWith known (now (bytes .entry)) t p h ⌝ }
+    ensures { λ r. ⌜ comp.readingAnswer r ≡ comp.readingAnswer (comp.compensatedWith known (now (bytes .entry)) t p h) ⌝ }
 {
     match known {
         Calibration::Refused(number) => Answer::Refused(number),

@@ -4,12 +4,13 @@ use mathlib.Core.Bool.{Bool, true, false}
 use mathlib.Core.List.{List, [], _∷_, _++_}
 use lib.IntN.{ℤ, pos}
 use Rattle.paper.specs.Numbers as no
-use Rattle.paper.specs.Answers.{Answer}
+use Rattle.paper.specs.Answers.{Answered, Answer, SignedAnswer}
+use Rattle.calibration.specs.declared.Calibration.{Calibration}
+use Rattle.calibration.specs.declared.Calibration.the-variants as blocks
 use Rattle.formula.specs.declared.TemperatureAnswer.{TemperatureAnswer}
 use Rattle.formula.specs.declared.TemperatureAnswer.the-variants as heat
 use Rattle.formula.specs.declared.ChannelAnswer.{ChannelAnswer}
 use Rattle.formula.specs.declared.ChannelAnswer.the-variants as channel
-use Rattle.compensation.specs.declared.Reading.{Reading}
 use Rattle.machine.specs.declared.Outcome.{Outcome}
 use Rattle.machine.specs.declared.Ledger.{Ledger}
 
@@ -22,16 +23,23 @@ abbrev pub ofFine : TemperatureAnswer → List ℤ
 ofFine (heat.Known value fine) = fine ∷ []
 ofFine (heat.Missing m) = []
 
-abbrev pub ofPressure : ChannelAnswer → List ℤ
-ofPressure (channel.Known value) = pos no.done ∷ pos value ∷ []
-ofPressure (channel.Missing m) = pos (m .number) ∷ []
+-- a pressure or a humidity
+abbrev pub ofChannel : ChannelAnswer → List ℤ
+ofChannel (channel.Known value) = pos no.done ∷ pos value ∷ []
+ofChannel (channel.Missing m) = pos (m .number) ∷ []
 
-abbrev pub ofHumidity : ChannelAnswer → List ℤ
-ofHumidity (channel.Known value) = pos no.done ∷ pos value ∷ []
-ofHumidity (channel.Missing m) = pos (m .number) ∷ []
+-- H4 and H5
+abbrev pub ofCalibration : Calibration → List ℤ
+ofCalibration (blocks.Known words) = pos no.done ∷ words .humidity .h4 ∷ words .humidity .h5 ∷ []
+ofCalibration (blocks.Refused n) = pos n ∷ []
 
-abbrev pub ofReading : Reading → List ℤ
-ofReading r = ofTemperature (r .temperature) ++ (ofPressure (r .pressure) ++ ofHumidity (r .humidity))
+-- the number of the whole, and then each channel's number and values
+abbrev pub ofChannels : List SignedAnswer → List ℤ
+ofChannels [] = []
+ofChannels (a ∷ rest) = pos (a .number) ∷ (a .values ++ ofChannels rest)
+
+abbrev pub ofReading : Answered SignedAnswer → List ℤ
+ofReading a = pos (a .number) ∷ ofChannels (a .values)
 
 -- numbers that are never negative
 abbrev pub ofNumbers : List ℕ → List ℤ
@@ -40,6 +48,10 @@ ofNumbers (n ∷ ns) = pos n ∷ ofNumbers ns
 
 abbrev pub ofAnswer : Answer → List ℤ
 ofAnswer a = ofNumbers (a .number ∷ a .values)
+
+-- and the lent bytes then
+abbrev pub ofEncoded : Answer × List ℕ → List ℤ
+ofEncoded (a, lent) = ofAnswer a ++ ofNumbers lent
 
 -- whether it was whole, and the number shown
 abbrev pub bit : Bool → ℕ

@@ -2,13 +2,14 @@
 use borrow.Author.Needs.{needs}
 use Rattle.laws.specs.Cases.{cases}
 use Rattle.calibration.proofs.OneAnswer.{one-calibration}
+use Rattle.compensation.proofs.OneAnswer.{one-reading}
 use Rattle.onegrish_words.specs.Kept.{compensatedKept}
 use Rattle.onegrish_words.proofs.compensate_kept.Statement.{statement}
 use Rattle.onegrish_words.proofs.compensate_kept.Tie as tie
 
 returns : tie.Need-returns
 unfolding compensatedKept
-returns c = rw (c .compensate-with .ensures, one-calibration _ _ (c .before .take-words .ensures)) (search cases)
+returns c = rw (one-reading _ _ (c .compensate-with .ensures), one-calibration _ _ (c .before .take-words .ensures)) (search cases)
 
 returns-2 : tie.Need-returns-2
 unfolding compensatedKept
