@@ -1,10 +1,11 @@
 // One side of a measurement, or both held to each other:
-//   speed library|maker loop|single|c real|junk ROUNDS    the readings ROUNDS times over
-//   speed compare loop|single|c real|junk                 both once: how many channels agree, how many the library refused
-//   speed library cycle ROUNDS                            the machine's forced cycles ROUNDS times over
-// A round is 1,440 readings, a day with one a minute, or as many cycles. loop: the words are decoded once a round; single: each
-// reading is a call from the raw blocks; c: a call of the library for C. All that a round reads is made before the first, so that
-// the difference of two runs is the rounds' own work.
+//   speed library|maker blocks|words real|junk ROUNDS    the readings ROUNDS times over
+//   speed compare blocks|words real|junk                 both once: how many channels agree, how many the library refused
+//   speed library cycle ROUNDS                           the machine's forced cycles ROUNDS times over
+// A round is 1,440 readings, a day with one a minute, or as many cycles. blocks: each reading is a call from the raw blocks,
+// onegrish_compensate beside a function of the C's that decodes too; words: the words are decoded before the first round, and each
+// reading is a call of onegrish_compensate_words beside a turn of the C's loop. All that a round reads is made before the first, so
+// that the difference of two runs is the rounds' own work.
 #include "maker.h"
 #include <onegrish.h>
 #include <stdio.h>
@@ -12,16 +13,15 @@
 int strcmp(const char *, const char *);
 int atoi(const char *);
 
-// The library's functions, of crates/speed and crates/single. A slice is a pointer and a length.
-size_t speed_readings(const uint8_t *one, size_t, const uint8_t *two, size_t, const uint8_t *bytes, size_t, int64_t *told, size_t);
-_Bool speed_reading(const uint8_t *one, size_t, const uint8_t *two, size_t, const uint8_t *bytes, size_t, int64_t *told, size_t);
+// The machine's cycles, of crates/measure_cycles. A slice is a pointer and a length.
 uint8_t speed_cycles(uint32_t n, uint8_t f4, uint32_t t, uint32_t p, uint32_t h, uint8_t *lent, size_t);
 
 enum { READINGS = 1440 };
-#define NONE ((int64_t)1 << 40) // no channel has such a value
-
 static uint8_t one[READINGS][26], two[READINGS][7], data[READINGS][8];
-static int64_t by_library[READINGS * 3], by_maker[READINGS * 3];
+static uint8_t numbers[READINGS][3];
+static int64_t values[READINGS][4], by_maker[READINGS * 3];
+static int16_t words[ONEGRISH_WORDS];
+static struct maker_words decoded;
 
 // T1 to P9 are the bench sheet's, H1 to H6 those of a usual chip: 75, 362, 0, 313, 50, 30.
 static const uint8_t CHIP_ONE[26] = {
@@ -57,7 +57,7 @@ static void make_real(void) {
     }
 }
 
-// Any bytes at all, but that the first reading has a chip's blocks: the loop takes its words from there.
+// Any bytes at all, but that the first reading has a chip's blocks: kept words are those.
 static void make_junk(void) {
     for (uint32_t i = 0; i < READINGS; i++) {
         for (uint32_t k = 0; k < 26; k++) one[i][k] = next();
@@ -68,33 +68,22 @@ static void make_junk(void) {
     __builtin_memcpy(two[0], CHIP_TWO, 7);
 }
 
-static void library_loop(void) { speed_readings(one[0], 26, two[0], 7, data[0], sizeof data, by_library, READINGS * 3); }
-
-static void maker_loop(void) {
-    struct maker_words w;
-    maker_decode(one[0], two[0], &w);
-    maker_readings(&w, data[0], READINGS, by_maker);
-}
-
-static void library_single(void) {
+static void library_blocks(void) {
     for (size_t i = 0; i < READINGS; i++)
-        speed_reading(one[i], 26, two[i], 7, data[i], 8, by_library + 3 * i, 3);
+        onegrish_compensate(one[i], 26, two[i], 7, data[i], 8, 1, 1, 1, numbers[i], 3, values[i], 4);
 }
 
-// The call of the library for C hands over the channels' numbers and the fine temperature too.
-static void library_c(void) {
-    for (size_t i = 0; i < READINGS; i++) {
-        uint8_t numbers[3];
-        int64_t values[4] = {NONE, NONE, NONE, NONE};
-        onegrish_compensate(one[i], 26, two[i], 7, data[i], 8, 1, 1, 1, numbers, 3, values, 4);
-        by_library[3 * i] = values[0], by_library[3 * i + 1] = values[2], by_library[3 * i + 2] = values[3];
-    }
-}
-
-static void maker_single(void) {
+static void maker_blocks(void) {
     for (size_t i = 0; i < READINGS; i++)
         maker_reading(one[i], two[i], data[i], by_maker + 3 * i);
 }
+
+static void library_words(void) {
+    for (size_t i = 0; i < READINGS; i++)
+        onegrish_compensate_words(words, ONEGRISH_WORDS, data[i], 8, 1, 1, 1, numbers[i], 3, values[i], 4);
+}
+
+static void maker_words(void) { maker_readings(&decoded, data[0], READINGS, by_maker); }
 
 // Mode 1 with one sample of each channel, as 0x25 says.
 static int run_cycles(int rounds) {
@@ -107,15 +96,16 @@ static int run_cycles(int rounds) {
 }
 
 static int compare(void (*library)(void), void (*maker)(void)) {
+    static const int places[3] = {ONEGRISH_VALUE_T, ONEGRISH_VALUE_P, ONEGRISH_VALUE_H};
     int same = 0, refused = 0, apart = 0;
-    for (size_t i = 0; i < READINGS * 3; i++)
-        by_library[i] = NONE;
     library();
     maker();
-    for (size_t i = 0; i < READINGS * 3; i++) {
-        if (by_library[i] == NONE) refused++;
-        else if (by_library[i] == by_maker[i]) same++;
-        else apart++;
+    for (size_t i = 0; i < READINGS; i++) {
+        for (int k = 0; k < 3; k++) {
+            if (numbers[i][k]) refused++;
+            else if (values[i][places[k]] == by_maker[3 * i + k]) same++;
+            else apart++;
+        }
     }
     printf("%d channels agree, %d refused, %d apart\n", same, refused, apart);
     return apart != 0;
@@ -125,14 +115,16 @@ int main(int argc, char **argv) {
     if (argc == 4 && !strcmp(argv[2], "cycle"))
         return run_cycles(atoi(argv[3]));
     if (argc < 4) {
-        printf("usage: speed library|maker|compare loop|single|c real|junk [ROUNDS]\n");
+        printf("usage: speed library|maker|compare blocks|words real|junk [ROUNDS]\n");
         return 2;
     }
-    int loop = !strcmp(argv[2], "loop");
-    void (*library)(void) = loop ? library_loop : !strcmp(argv[2], "c") ? library_c : library_single;
-    void (*maker)(void) = loop ? maker_loop : maker_single;
+    int kept = !strcmp(argv[2], "words");
+    void (*library)(void) = kept ? library_words : library_blocks;
+    void (*maker)(void) = kept ? maker_words : maker_blocks;
     if (!strcmp(argv[3], "junk")) make_junk();
     else make_real();
+    onegrish_words(one[0], 26, two[0], 7, words, ONEGRISH_WORDS);
+    maker_decode(one[0], two[0], &decoded);
     if (!strcmp(argv[1], "compare"))
         return compare(library, maker);
     void (*work)(void) = strcmp(argv[1], "maker") ? library : maker;

@@ -12,23 +12,24 @@ static const uint8_t two[7] = {0};
 static const uint8_t bytes[8] = {0x65, 0x5A, 0xC0, 0x7E, 0xED, 0x00, 0x80, 0x00};
 
 int main(void) {
-    uint8_t numbers[3];
-    int64_t values[4];
-    uint8_t answer = onegrish_compensate(one, 26, two, 7, bytes, 8, 1, 1, 0, numbers, 3, values, 4);
-    if (answer != 0) {
+    uint8_t numbers[ONEGRISH_NUMBERS];
+    int64_t values[ONEGRISH_VALUES];
+    uint8_t answer = onegrish_compensate(one, ONEGRISH_BLOCK_ONE, two, ONEGRISH_BLOCK_TWO, bytes, ONEGRISH_DATA, ONEGRISH_CODE_1, ONEGRISH_CODE_1,
+                                         ONEGRISH_CODE_SKIPPED, numbers, ONEGRISH_NUMBERS, values, ONEGRISH_VALUES);
+    if (answer != ONEGRISH_DONE) {
         printf("refused with %u\n", answer);
         return 1;
     }
-    if (numbers[0] == 0)
-        printf("temperature %.2f degrees\n", (double)values[0] / 100);
+    if (numbers[ONEGRISH_NUMBER_T] == ONEGRISH_DONE)
+        printf("temperature %.2f degrees\n", (double)values[ONEGRISH_VALUE_T] / 100);
     else
         printf("temperature missing: %u\n", numbers[0]);
-    if (numbers[1] == 0)
-        printf("pressure %.3f Pa\n", (double)values[2] / 256);
+    if (numbers[ONEGRISH_NUMBER_P] == ONEGRISH_DONE)
+        printf("pressure %.3f Pa\n", (double)values[ONEGRISH_VALUE_P] / 256);
     else
         printf("pressure missing: %u\n", numbers[1]);
-    if (numbers[2] == 0)
-        printf("humidity %.3f %%RH\n", (double)values[3] / 1024);
+    if (numbers[ONEGRISH_NUMBER_H] == ONEGRISH_DONE)
+        printf("humidity %.3f %%RH\n", (double)values[ONEGRISH_VALUE_H] / 1024);
     else
         printf("humidity missing: %u\n", numbers[2]);
     return 0;
