@@ -57,7 +57,10 @@ of-answers one two bytes t p h r = go (calibrated one two) refl
     go (blocks.Known words) is e = record {
       words = words;
       known = is;
-      channels = subst (λ (x : Reading). missing.Channels words (countsOf bytes) t p h x) (by-length words bytes t p h r (eqb (length bytes) reg.dataLength) e) (of-readings words (countsOf bytes) t p h);
+      channels =
+          subst (λ (x : Reading). missing.Channels words (countsOf bytes) t p h x)
+          (by-length words bytes t p h r (eqb (length bytes) reg.dataLength) e)
+          (of-readings words (countsOf bytes) t p h);
     }
     go (blocks.Refused n) is e = absurd (never e)
 

@@ -45,7 +45,10 @@ module _ (ds : List Need) (v f : ℤ) where
 
 pub temperature-given : exact.TemperatureGiven
 temperature-given words count value fine = (
-  λ e. let q = temperature-known (temperatureNeeds words count) (t.plainTemperature words count) (t.plainFine words count) value fine (sym (temperature-table.first-decides words count) ∙ e) in record { value-is = q .0; fine-is = q .1; needs-met = q .2 },
+  λ e.
+      let said = sym (temperature-table.first-decides words count) ∙ e in
+      let q = temperature-known (temperatureNeeds words count) (t.plainTemperature words count) (t.plainFine words count) value fine said in
+      record { value-is = q .0; fine-is = q .1; needs-met = q .2 },
   λ x. temperature-table.first-decides words count ∙ rw (met-value Bits32 (temperatureNeeds words count) (t.plainTemperature words count) (x .needs-met), x .value-is, x .fine-is),
 )
 

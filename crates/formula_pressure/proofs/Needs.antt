@@ -8,7 +8,7 @@ use lib.ListN.{take, drop}
 use Rattle.paper.specs.Numbers as no
 use Rattle.steps.specs.declared.Signed.the-variants.{Bits64}
 use Rattle.steps.specs.Step.{isNonzero, onValue, onValues}
-use Rattle.steps.specs.Needs.{hold, verdict}
+use Rattle.steps.specs.Needs.{Need, hold, verdict}
 use Rattle.steps.specs.Work.{plain, needs, run}
 use Rattle.steps.proofs.Exactness.{exact, again}
 use Rattle.calibration.specs.declared.PressureWords.{PressureWords}
@@ -18,12 +18,21 @@ use Rattle.formula_pressure.specs.Pressure.{pressureFormula, pressureOf,
 use Rattle.formula_pressure.specs.Needs.{pressureNeeds, FirstDecides, stepsAlone, ZeroTestFirst}
 
 module _ (words : PressureWords) (fine : ℤ) (count : ℕ) where
+  abbrev zero-test : Need
+  zero-test = hold (isNonzero (plainDivisor words fine)) no.divisorZero
+
   -- the eighteen steps before the test, the four up to the division, and what follows
-  table-is : pressureNeeds words fine count ≡ take 18 (pressureNeeds words fine count) ++ (hold (isNonzero (plainDivisor words fine)) no.divisorZero ∷ (take 4 (drop 19 (pressureNeeds words fine count)) ++ drop 23 (pressureNeeds words fine count)))
+  table-is :
+      pressureNeeds words fine count
+      ≡ take 18 (pressureNeeds words fine count)
+      ++ (zero-test ∷ (take 4 (drop 19 (pressureNeeds words fine count)) ++ drop 23 (pressureNeeds words fine count)))
   unfolding pressureNeeds plainDivisor
   table-is = refl
 
-  needs-are : needs (pressureFormula words fine count) ≡ take 18 (pressureNeeds words fine count) ++ (hold (isNonzero (plainDivisor words fine)) no.divisorZero ∷ (take 4 (drop 19 (pressureNeeds words fine count)) ++ (hold (isNonzero (plainDivisor words fine)) no.divisorZero ∷ drop 23 (pressureNeeds words fine count))))
+  needs-are :
+      needs (pressureFormula words fine count)
+      ≡ take 18 (pressureNeeds words fine count)
+      ++ (zero-test ∷ (take 4 (drop 19 (pressureNeeds words fine count)) ++ (zero-test ∷ drop 23 (pressureNeeds words fine count))))
   unfolding needs plain p.differenceLine p.offsetLines p.divisorLines p.quotientLines p.curveLine p.slopeLine p.lastLine p.refinedLines p.pressureLines pressureFormula pressureNeeds plainDivisor
   needs-are = refl
 
@@ -41,12 +50,14 @@ module _ (words : PressureWords) (fine : ℤ) (count : ℕ) where
       ∙ ap answered
       (exact Bits64 (pressureFormula words fine count)
       ∙ rw (needs-are, pressure-plain) refl
-      ∙ again Bits64 (take 18 (pressureNeeds words fine count)) (take 4 (drop 19 (pressureNeeds words fine count))) (drop 23 (pressureNeeds words fine count)) (isNonzero (plainDivisor words fine)) no.divisorZero (plainPressure words fine count)
+      ∙ again Bits64 (take 18 (pressureNeeds words fine count)) (take 4 (drop 19 (pressureNeeds words fine count)))
+      (drop 23 (pressureNeeds words fine count)) (isNonzero (plainDivisor words fine)) no.divisorZero (plainPressure words fine count)
       ∙ ap (λ ds. verdict Bits64 ds (plainPressure words fine count)) (sym table-is))
 
 pub first-decides : FirstDecides
 first-decides = decides
 
 pub zero-test-first : ZeroTestFirst
-unfolding run onValue onValues verdict stepsAlone pressureNeeds p.differenceLine p.offsetLines p.divisorLines p.quotientLines p.curveLine p.slopeLine p.lastLine p.refinedLines p.pressureLines pressureFormula pressureOf
+unfolding run onValue onValues verdict stepsAlone pressureNeeds pressureFormula pressureOf
+    p.differenceLine p.offsetLines p.divisorLines p.quotientLines p.curveLine p.slopeLine p.lastLine p.refinedLines p.pressureLines
 zero-test-first = record { zero-decides = refl; step-fails-too = λ z. refl }

@@ -32,7 +32,7 @@ fn degrees(fine: i64) -> i64
 }
 
 // The temperature and the fine temperature of a count that is near T1.
-pub fn temperature(words: TemperatureWords, count: u32) -> TemperatureAnswer
+pub(crate) fn temperature(words: TemperatureWords, count: u32) -> TemperatureAnswer
     requires { ⌜ Near (words .t1) count ⌝ }
     ensures { λ r. ⌜ r ≡ temperatureOf words count ⌝ }
 {

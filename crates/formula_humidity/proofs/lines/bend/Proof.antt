@@ -15,7 +15,8 @@ h6-fits s = search needs
 returns : tie.Need-returns
 unfolding run bendFactor added multiplied shiftedRight
 returns c =
-    let s = c .before .before .before .before .before .before .before .before .before .before .before in
+    let early = c .before .before .before .before .before .before .before .before in
+    let s = early .before .before .before in
     rw (
       c .shift-right3 .ensures,
       c .before .multiply3 .ensures,
@@ -25,7 +26,7 @@ returns c =
       c .before .before .before .before .before .shift-right .ensures,
       c .before .before .before .before .before .before .multiply .ensures,
       c .before .before .before .before .before .before .before .signed8 .ensures,
-      c .before .before .before .before .before .before .before .before .before .unsigned .ensures,
+      early .before .unsigned .ensures,
       toZ-ofZ (h6-fits s),
       toZ-ofZ (s .fits .v),
     )

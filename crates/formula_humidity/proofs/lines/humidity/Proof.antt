@@ -15,7 +15,10 @@ difference-is : (c : tie.After-difference) → c .difference .result ≡ run Bit
 unfolding differenceLine
 difference-is c = rw (toZ-ofZ (c .before .fits .fine)) at (c .difference .ensures)
 
-product-is : (c : tie.After-product) → c .product .result ≡ run Bits32 (productLine (c .before .before .before .before .before .args .words) (c .before .before .before .before .before .args .count) (c .before .before .a .given .0 .0))
+product-is :
+    (c : tie.After-product) →
+    c .product .result
+    ≡ run Bits32 (productLine (c .before .before .before .before .before .args .words) (c .before .before .before .before .before .args .count) (c .before .before .a .given .0 .0))
 product-is c =
     let h : SFits w64 (c .before .before .a .given .0 .0) = search needs in
     rw (toZ-ofZ h) at (c .product .ensures)

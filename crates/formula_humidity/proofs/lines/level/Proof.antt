@@ -18,7 +18,8 @@ h5-fits s = search needs
 returns : tie.Need-returns
 unfolding run levelFactor added subtracted multiplied shiftedLeft shiftedRight
 returns c =
-    let s = c .before .before .before .before .before .before .before .before .before .before .before .before in
+    let early = c .before .before .before .before .before .before .before .before in
+    let s = early .before .before .before .before in
     rw (
       c .shift-right .ensures,
       c .before .add .ensures,
@@ -28,8 +29,8 @@ returns c =
       c .before .before .before .before .before .shift-left2 .ensures,
       c .before .before .before .before .before .before .shift-left .ensures,
       c .before .before .before .before .before .before .before .signed162 .ensures,
-      c .before .before .before .before .before .before .before .before .before .signed16 .ensures,
-      c .before .before .before .before .before .before .before .before .before .before .before .unsigned .ensures,
+      early .before .signed16 .ensures,
+      early .before .before .before .unsigned .ensures,
       toZ-ofZ (h4-fits s),
       toZ-ofZ (h5-fits s),
       toZ-ofZ (s .fits .v),

@@ -41,7 +41,9 @@ gain-requires c κs = (c .before .pre .small, near (c .before))
 
 -- ---- each line's number, as the next goes on from it
 
-level-is : (c : tie.After-level) → Gives Bits32 55421 (levelFactor (c .before .args .words) (c .before .args .count) (local (toZ w32 (ofZ w32 (c .before .args .fine))) -ℤ pos 76800)) (c .level .result)
+level-is :
+    (c : tie.After-level) →
+    Gives Bits32 55421 (levelFactor (c .before .args .words) (c .before .args .count) (local (toZ w32 (ofZ w32 (c .before .args .fine))) -ℤ pos 76800)) (c .level .result)
 level-is c = rw (back (difference (c .before))) at (c .level .ensures)
 
 gain-is : (c : tie.After-gain) → Gives Bits32 128842 (gainFactor (c .before .before .args .words) (local (toZ w32 (ofZ w32 (c .before .before .args .fine))) -ℤ pos 76800)) (c .gain .result)
@@ -56,7 +58,14 @@ small c = small-is _ (sym (c .before .is-small .ensures) ∙ c .if1 .taken)
 correct-requires : tie.Need-correct-requires
 correct-requires c κs = small c
 
-product-is : (c : tie.Then1) → Gives Bits32 1000000000 (productLine (c .before .before .before .before .args .words) (c .before .before .before .before .args .count) (local (toZ w32 (ofZ w32 (c .before .before .before .before .args .fine))) -ℤ pos 76800)) (local (c .before .before .before .level .result) *ℤ local (c .before .before .gain .result))
+product-is :
+    (c : tie.Then1) →
+    Gives Bits32 1000000000
+    (productLine
+    (c .before .before .before .before .args .words)
+    (c .before .before .before .before .args .count)
+    (local (toZ w32 (ofZ w32 (c .before .before .before .before .args .fine))) -ℤ pos 76800))
+    (local (c .before .before .before .level .result) *ℤ local (c .before .before .gain .result))
 unfolding productLine
 product-is c =
     let g = c .before .before in
@@ -64,7 +73,14 @@ product-is c =
     let h = gain-is g in
     times-within l h 1000000000 (rw (back (times (wider l) (wider h) refl), back l, back h) at (small c .size)) refl
 
-lines : (c : tie.After-correct) → Gives Bits32 2147483647 (humidityLines (c .before .before .before .before .before .args .words) (c .before .before .before .before .before .args .fine) (c .before .before .before .before .before .args .count)) (c .correct .result)
+lines :
+    (c : tie.After-correct) →
+    Gives Bits32 2147483647
+    (humidityLines
+    (c .before .before .before .before .before .args .words)
+    (c .before .before .before .before .before .args .fine)
+    (c .before .before .before .before .before .args .count))
+    (c .correct .result)
 unfolding humidityLines
 lines c =
     let p = product-is (c .before) in
@@ -80,4 +96,7 @@ returns-2 c =
     c .anew .ensures ∙ (rw (toZ-ofZ (s .fits .fine)) at (c .before .humidity .ensures))
 
 pub humidity-spec : {M : Type 1} → statement M
-humidity-spec = tie.close (tie.spec cast-difference sub-difference level-requires gain-requires mul-product (λ c κs. search needs) correct-requires (λ c κs. search needs) returns (λ c κs. search needs) (λ c κs. search needs) returns-2)
+humidity-spec =
+    tie.close
+    (tie.spec cast-difference sub-difference level-requires gain-requires mul-product (λ c κs. search needs) correct-requires
+    (λ c κs. search needs) returns (λ c κs. search needs) (λ c κs. search needs) returns-2)

@@ -23,14 +23,15 @@ p3-fits s = search needs
 returns : tie.Need-returns
 unfolding run divisorLines onValue onValues nonzero added multiplied shiftedLeft shiftedRight
 returns c =
-    let s = c .before .before .before .before .before .before .before .before .before .before .before .before .before .before .before .before .before in
+    let early = c .before .before .before .before .before .before .before .before in
+    let s = early .before .before .before .before .before .before .before .before .before in
     rw (
       c .refuse-zero .ensures,
       c .before .shift-right2 .ensures,
       c .before .before .multiply4 .ensures,
       c .before .before .before .add2 .ensures,
       c .before .before .before .before .before .shift-left2 .ensures,
-      c .before .before .before .before .before .before .before .before .before .before .before .before .before .before .before .unsigned .ensures,
+      early .before .before .before .before .before .before .before .unsigned .ensures,
     )
     (ap nonzero
     (in-place
@@ -41,11 +42,11 @@ returns c =
       c .before .before .before .before .add .ensures,
       c .before .before .before .before .before .before .shift-left .ensures,
       c .before .before .before .before .before .before .before .multiply3 .ensures,
-      c .before .before .before .before .before .before .before .before .shift-right .ensures,
-      c .before .before .before .before .before .before .before .before .before .multiply2 .ensures,
-      c .before .before .before .before .before .before .before .before .before .before .multiply .ensures,
-      c .before .before .before .before .before .before .before .before .before .before .before .signed162 .ensures,
-      c .before .before .before .before .before .before .before .before .before .before .before .before .before .signed16 .ensures,
+      early .shift-right .ensures,
+      early .before .multiply2 .ensures,
+      early .before .before .multiply .ensures,
+      early .before .before .before .signed162 .ensures,
+      early .before .before .before .before .before .signed16 .ensures,
       toZ-ofZ (s .fits .difference),
       toZ-ofZ (p2-fits s),
       toZ-ofZ (p3-fits s),

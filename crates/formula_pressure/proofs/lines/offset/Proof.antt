@@ -24,7 +24,8 @@ p6-fits s = search needs
 returns : tie.Need-returns
 unfolding run offsetLines onValue onValues added multiplied shiftedLeft
 returns c =
-    let s = c .before .before .before .before .before .before .before .before .before .before .before .before .before in
+    let early = c .before .before .before .before .before .before .before .before in
+    let s = early .before .before .before .before .before in
     rw (c .add2 .ensures, c .before .before .add .ensures)
     (in-place
     (λ a. added Bits64 (added Bits64 a (c .before .before .before .shift-left .result)) (c .before .shift-left2 .result))
@@ -37,8 +38,8 @@ returns c =
       c .before .before .before .before .before .multiply2 .ensures,
       c .before .before .before .before .before .before .multiply .ensures,
       c .before .before .before .before .before .before .before .signed163 .ensures,
-      c .before .before .before .before .before .before .before .before .before .signed162 .ensures,
-      c .before .before .before .before .before .before .before .before .before .before .before .signed16 .ensures,
+      early .before .signed162 .ensures,
+      early .before .before .before .signed16 .ensures,
       toZ-ofZ (s .fits .difference),
       toZ-ofZ (p4-fits s),
       toZ-ofZ (p5-fits s),

@@ -1,4 +1,5 @@
 -- `pressure::lines::pressure` meets its contract: a line that is refused is the answer, and a line's value goes on to the next.
+use Prim.Native.Nat.{ℕ}
 use mathlib.Core.Path.{_≡_}
 use mir.Syntax.{w64}
 use mir.Val.{SFits}
@@ -20,12 +21,23 @@ offset-is c =
     let h : SFits w64 (c .before .before .a .given .0 .0) = search needs in
     rw (toZ-ofZ h) at (c .offset .ensures)
 
-divisor-is : (c : tie.After-divisor) → c .divisor .result ≡ run Bits64 (divisorLines (c .before .before .before .before .before .before .before .before .before .args .words) (c .before .before .before .before .before .before .a .given .0 .0))
+divisor-is :
+    (c : tie.After-divisor) →
+    c .divisor .result
+    ≡ run Bits64 (divisorLines (c .before .before .before .before .before .before .before .before .before .args .words) (c .before .before .before .before .before .before .a .given .0 .0))
 divisor-is c =
     let h : SFits w64 (c .before .before .before .before .before .before .a .given .0 .0) = search needs in
     rw (toZ-ofZ h) at (c .divisor .ensures)
 
-quotient-is : (c : tie.After-quotient) → c .quotient .result ≡ run Bits64 (quotientLines (c .before .before .before .before .before .before .before .before .before .before .before .before .before .args .count) (c .before .before .before .before .before .before .b .given .0 .0) (c .before .before .d .given .0 .0))
+-- the count that came in
+abbrev counted : tie.After-offset → ℕ
+counted c = c .before .before .before .before .before .args .count
+
+quotient-is :
+    (c : tie.After-quotient) →
+    c .quotient .result
+    ≡ run Bits64
+    (quotientLines (counted (c .before .before .before .before .before .before .before .before)) (c .before .before .before .before .before .before .b .given .0 .0) (c .before .before .d .given .0 .0))
 quotient-is c =
     let h : SFits w64 (c .before .before .before .before .before .before .b .given .0 .0) = search needs in
     let k : SFits w64 (c .before .before .d .given .0 .0) = search needs in

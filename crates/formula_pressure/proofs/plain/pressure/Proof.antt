@@ -77,7 +77,11 @@ dividing c =
     let f : SFits w64 (d .divisor .result) = search needs in
     dividing-is _ _ (rw (toZ-ofZ f) f) (sym (c .before .is-dividing .ensures) ∙ c .if1 .taken)
 
-divisor-is : (c : tie.Then1) → Gives Bits64 1073741824 (divisorLines (c .before .before .before .before .before .args .words) (local (toZ w32 (ofZ w32 (c .before .before .before .before .before .args .fine))) -ℤ pos 128000)) (c .before .before .before .divisor .result)
+divisor-is :
+    (c : tie.Then1) →
+    Gives Bits64 1073741824
+    (divisorLines (c .before .before .before .before .before .args .words) (local (toZ w32 (ofZ w32 (c .before .before .before .before .before .args .fine))) -ℤ pos 128000))
+    (c .before .before .before .divisor .result)
 divisor-is c =
     let d = c .before .before .before in
     let far : 134217728 ≤ natAbs (d .divisor .result) = rw (divisor-back d) at (dividing c .divisor) in
@@ -86,7 +90,9 @@ divisor-is c =
 quotient-requires : tie.Need-quotient-requires
 quotient-requires c κs = dividing c
 
-quotient-is : (c : tie.After-quotient) → Gives Bits64 68719476736 (divisionLine (c .before .before .before .dividend .result) (c .before .before .before .before .divisor .result)) (c .quotient .result)
+quotient-is :
+    (c : tie.After-quotient) →
+    Gives Bits64 68719476736 (divisionLine (c .before .before .before .dividend .result) (c .before .before .before .before .divisor .result)) (c .quotient .result)
 quotient-is c =
     let x = c .before .before .before in
     rw (back (dividend-is x), divisor-back (x .before)) at (c .quotient .ensures)
@@ -94,13 +100,21 @@ quotient-is c =
 refine-is : (c : tie.After-refine) → Gives Bits64 4294967296 (refinedLines (c .before .before .before .before .before .before .before .args .words) (c .before .quotient .result)) (c .refine .result)
 refine-is c = rw (back (quotient-is (c .before))) at (c .refine .ensures)
 
-lines : (c : tie.After-refine) → Gives Bits64 4294967296 (pressureLines (c .before .before .before .before .before .before .before .args .words) (c .before .before .before .before .before .before .before .args .fine) (c .before .before .before .before .before .before .before .args .count)) (c .refine .result)
+lines :
+    (c : tie.After-refine) →
+    Gives Bits64 4294967296
+    (pressureLines
+    (c .before .before .before .before .before .before .before .args .words)
+    (c .before .before .before .before .before .before .before .args .fine)
+    (c .before .before .before .before .before .before .before .args .count))
+    (c .refine .result)
 unfolding pressureLines
 lines c =
     let q = c .before in
     let x = q .before .before .before in
     let o = x .before .before in
-    onto (difference (o .before)) (onto (offset-is o) (onto (divisor-is (q .before)) (onto (divided (o .before .args .count) (o .offset .result) (x .before .divisor .result) (x .dividend .result) (dividend-is x) (quotient-is q)) (refine-is c))))
+    let whole = divided (o .before .args .count) (o .offset .result) (x .before .divisor .result) (x .dividend .result) (dividend-is x) (quotient-is q) in
+    onto (difference (o .before)) (onto (offset-is o) (onto (divisor-is (q .before)) (onto whole (refine-is c))))
 
 returns : tie.Need-returns
 unfolding run onValue pressureFormula pressureOf
@@ -112,4 +126,7 @@ returns-2 c =
     c .anew .ensures ∙ (rw (toZ-ofZ (s .fits .fine)) at (c .before .pressure .ensures))
 
 pub pressure-spec : {M : Type 1} → statement M
-pressure-spec = tie.close (tie.spec cast-difference sub-difference offset-requires divisor-requires (λ c κs. search needs) (λ c κs. search needs) quotient-requires (λ c κs. search needs) (λ c κs. search needs) returns (λ c κs. search needs) (λ c κs. search needs) returns-2)
+pressure-spec =
+    tie.close
+    (tie.spec cast-difference sub-difference offset-requires divisor-requires (λ c κs. search needs) (λ c κs. search needs) quotient-requires
+    (λ c κs. search needs) (λ c κs. search needs) returns (λ c κs. search needs) (λ c κs. search needs) returns-2)

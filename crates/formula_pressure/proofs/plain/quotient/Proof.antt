@@ -20,7 +20,10 @@ mul-result c = fit (times (above c) (literal 3125 refl) refl)
 
 div-result : tie.Need-div-result
 div-result c =
-    (bits-far (c .args .divisor) (c .fits .divisor) {l = 134217728} (omega arith) (c .pre .divisor), fit (over (times (above c) (literal 3125 refl) refl) (below c) 134217728 (omega arith) (c .pre .divisor) refl))
+    let product = times (above c) (literal 3125 refl) refl in (
+      bits-far (c .args .divisor) (c .fits .divisor) {l = 134217728} (omega arith) (c .pre .divisor),
+      fit (over product (below c) 134217728 (omega arith) (c .pre .divisor) refl),
+    )
 
 returns : tie.Need-returns
 unfolding divisionLine

@@ -15,7 +15,8 @@ t3-fits s = search needs
 returns : tie.Need-returns
 unfolding run curveLine subtracted multiplied shiftedRight
 returns c =
-    let s = c .before .before .before .before .before .before .before .before .before .before .before in
+    let early = c .before .before .before .before .before .before .before .before in
+    let s = early .before .before .before in
     rw (
       c .shift-right3 .ensures,
       c .before .multiply2 .ensures,
@@ -24,8 +25,8 @@ returns c =
       c .before .before .before .before .subtract .ensures,
       c .before .before .before .before .before .shift-right .ensures,
       c .before .before .before .before .before .before .signed16 .ensures,
-      c .before .before .before .before .before .before .before .before .unsigned2 .ensures,
-      c .before .before .before .before .before .before .before .before .before .before .unsigned .ensures,
+      early .unsigned2 .ensures,
+      early .before .before .unsigned .ensures,
       toZ-ofZ (t3-fits s),
     )
 
