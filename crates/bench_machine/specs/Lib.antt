@@ -1,2 +1,2 @@
 -- The answers of fresh, the eight events and ledger.
-pub mod Happenings
+pub mod Outcomes

@@ -1,15 +1,15 @@
-// The machine's commands: fresh, the eight events, ledger.
+// The machine's answers: fresh, the eight events, ledger.
 ghost use mathlib.Core.Path.{_≡_};
-ghost use Rattle.bench_machine.specs.Happenings as happenings;
-use bench_arguments::Three;
-use bench_arguments::Two;
-use bench_command::Happening;
-use bench_numbers::Number;
+ghost use Rattle.bench_page.specs.Page.{_▹_};
+ghost use Rattle.machine.specs.Counts.{tallied};
+ghost use Rattle.bench_machine.specs.Outcomes as outcomes;
+use crate::told::Said;
+use machine::Event;
 use machine::Machine;
 use machine::Outcome;
+use machine::Tally;
 
-mod reads; // byte, close
-mod counts; // ledger
+mod told;
 
 // The machine after a command, and the page's next place.
 pub struct Answered {
@@ -17,117 +17,70 @@ pub struct Answered {
     pub at: usize,
 }
 
-// Answers a happening's line: gives the machine afterwards, and writes the number and what goes with it, or the reason that refuses.
-pub fn answer(happening: Happening, line: &[u8], m: Machine, out: &mut [u8], at: usize) -> Answered
-    ensures { λ r. ⌜ (r .machine, (now (out .exit), r .at)) ≡ happenings.answered happening (now (line .entry)) m (now (out .entry), at) ⌝ }
+// Writes what an event hands back, and gives the machine after it.
+pub fn event(m: Machine, e: Event, out: &mut [u8], at: usize) -> Answered
+    ensures { λ r. ⌜ (r .machine, (now (out .exit), r .at)) ≡ outcomes.event m e (now (out .entry), at) ⌝ }
 {
-    match happening {
-        Happening::Fresh => fresh(out, at),
-        Happening::FreshAfter => fresh_after(bench_arguments::decimal(line, 1), m, out, at),
-        Happening::Power => tell_outcome(machine_start::power(m), out, at),
-        Happening::Copied => tell_outcome(machine_start::copied(m), out, at),
-        Happening::Wake => tell_outcome(machine_finish::wake(m), out, at),
-        Happening::Write => write(
-            bench_arguments::both(
-                bench_arguments::pair(line, 1),
-                bench_arguments::pair(line, 2),
-            ),
-            m,
-            out,
-            at,
-        ),
-        Happening::Finish => finish(bench_arguments::decimals(line, 1, 2, 3), m, out, at),
-        Happening::Open => open(bench_arguments::pair(line, 1), m, out, at),
-        Happening::Byte => reads::byte(m, out, at),
-        Happening::Close => reads::close(bench_arguments::length(line, 1), m, out, at),
-        Happening::Ledger => counts::ledger(m, out, at),
-    }
-}
-
-// The machine stays as it is.
-fn stay(m: Machine, at: usize) -> Answered
-    ensures { λ r. ⌜ r ≡ happenings.stayed m at ⌝ }
-{
-    Answered { machine: m, at }
-}
-
-// fresh
-fn fresh(out: &mut [u8], at: usize) -> Answered
-    ensures { λ r. ⌜ (r .machine, (now (out .exit), r .at)) ≡ happenings.fresh (now (out .entry), at) ⌝ }
-{
-    Answered {
-        machine: machine_start::fresh(),
-        at: bench_phrases::number(paper::DONE, out, at),
-    }
-}
-
-// fresh N, with the number that was read.
-fn fresh_after(number: Number, m: Machine, out: &mut [u8], at: usize) -> Answered
-    ensures { λ r. ⌜ (r .machine, (now (out .exit), r .at)) ≡ happenings.freshAfter number m (now (out .entry), at) ⌝ }
-{
-    match number {
-        Number::Value(n) => Answered {
-            machine: machine_start::fresh_after(bench_amounts::count(n)),
-            at: bench_phrases::number(paper::DONE, out, at),
-        },
-        Number::Refused(reason) => stay(m, bench_phrases::refuse(reason, out, at)),
-    }
-}
-
-// write REG VALUE, with the register and the value that were read.
-fn write(numbers: Two, m: Machine, out: &mut [u8], at: usize) -> Answered
-    ensures { λ r. ⌜ (r .machine, (now (out .exit), r .at)) ≡ happenings.write numbers m (now (out .entry), at) ⌝ }
-{
-    match numbers {
-        Two::Values(register, value) => tell_outcome(
-            machine_write::write(
-                m,
-                bench_amounts::octet(register),
-                bench_amounts::octet(value),
-            ),
-            out,
-            at,
-        ),
-        Two::Refused(reason) => stay(m, bench_phrases::refuse(reason, out, at)),
-    }
-}
-
-// finish T P H, with the counts that were read.
-fn finish(numbers: Three, m: Machine, out: &mut [u8], at: usize) -> Answered
-    ensures { λ r. ⌜ (r .machine, (now (out .exit), r .at)) ≡ happenings.finish numbers m (now (out .entry), at) ⌝ }
-{
-    match numbers {
-        Three::Values(t, p, h) => tell_outcome(
-            machine_finish::finish(
-                m,
-                bench_amounts::count(t),
-                bench_amounts::count(p),
-                bench_amounts::count(h),
-            ),
-            out,
-            at,
-        ),
-        Three::Refused(reason) => stay(m, bench_phrases::refuse(reason, out, at)),
-    }
-}
-
-// open ADDR, with the address that was read.
-fn open(address: Number, m: Machine, out: &mut [u8], at: usize) -> Answered
-    ensures { λ r. ⌜ (r .machine, (now (out .exit), r .at)) ≡ happenings.opening address m (now (out .entry), at) ⌝ }
-{
-    match address {
-        Number::Value(n) => tell_outcome(machine_burst::open(m, bench_amounts::octet(n)), out, at),
-        Number::Refused(reason) => stay(m, bench_phrases::refuse(reason, out, at)),
-    }
-}
-
-// Writes an event's number.
-fn tell_outcome(outcome: Outcome, out: &mut [u8], at: usize) -> Answered
-    ensures { λ r. ⌜ (r .machine, (now (out .exit), r .at)) ≡ happenings.outcomeTold outcome (now (out .entry), at) ⌝ }
-{
+    let outcome = machine_step::step(m, e);
     let machine = outcome.machine;
     Answered {
         machine,
-        at: bench_phrases::number(outcome.answer, out, at),
+        at: told::write_said(said_by(outcome), told::shape_of(e), out, at),
+    }
+}
+
+// Writes the ledger with the names of what stands.
+pub fn ledger(m: Machine, out: &mut [u8], at: usize) -> usize
+    ensures { λ r. ⌜ (now (out .exit), r) ≡ (now (out .entry), at) ▹ outcomes.tally (tallied m) ⌝ }
+{
+    write_tally(machine_conversion::tally(m), out, at)
+}
+
+// Gives the fresh machine as after so many conversions, and writes that it is done.
+pub fn fresh(n: u32, out: &mut [u8], at: usize) -> Answered
+    ensures { λ r. ⌜ (r .machine, (now (out .exit), r .at)) ≡ outcomes.fresh n (now (out .entry), at) ⌝ }
+{
+    Answered {
+        machine: machine_start::fresh_after(n),
+        at: bench_page::write_decimal(paper::DONE as u64, out, at),
+    }
+}
+
+// Writes the counts and what stands, by name.
+fn write_tally(tally: Tally, out: &mut [u8], at: usize) -> usize
+    ensures { λ r. ⌜ (now (out .exit), r) ≡ (now (out .entry), at) ▹ outcomes.tally tally ⌝ }
+{
+    bench_row::fill(
+        b"begun=# delivered=# overwritten=# abandoned=# standing=# running=# waiting=# shown=#",
+        &[
+            tally.ledger.begun as u64,
+            tally.ledger.delivered as u64,
+            tally.ledger.overwritten as u64,
+            tally.ledger.abandoned as u64,
+            tally.ledger.standing as u64,
+            tally.running as u64,
+            tally.waiting as u64,
+            tally.unread as u64,
+        ],
+        out,
+        at,
+    )
+}
+
+// What an outcome says beside the machine.
+fn said_by(outcome: Outcome) -> Said
+    ensures { λ r. ⌜ r ≡ outcomes.said outcome ⌝ }
+{
+    let bytes = outcome.bytes;
+    Said {
+        answer: outcome.answer,
+        value: outcome.value,
+        whole: outcome.whole,
+        number: outcome.number,
+        temperature: outcome.codes.temperature,
+        pressure: outcome.codes.pressure,
+        humidity: outcome.codes.humidity,
+        delivered: outcome.delivered,
+        bytes,
     }
 }

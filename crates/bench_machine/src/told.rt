@@ -1,0 +1,132 @@
+// What an event hands back, as text.
+ghost use mathlib.Core.Path.{_≡_};
+ghost use Rattle.bench_page.specs.Page.{_▹_};
+ghost use Rattle.bench_lent.specs.Lent.{lentOf};
+ghost use Rattle.bench_row.specs.Row.{buffer};
+ghost use Rattle.bench_machine.specs.Outcomes as outcomes;
+use machine::Event;
+
+// What an outcome says beside the machine.
+pub struct Said {
+    pub answer: u8,
+    pub value: u8,
+    pub whole: bool,
+    pub number: u32,
+    pub temperature: u8,
+    pub pressure: u8,
+    pub humidity: u8,
+    pub delivered: bool,
+    pub bytes: [u8; 8],
+}
+
+// What an event's answer shows: the number alone, a byte beside it, or what a close in a buffer of so many bytes shows.
+pub enum Shape {
+    Number,
+    Byte,
+    Close(usize),
+}
+
+// The shape of an event's answer.
+pub fn shape_of(e: Event) -> Shape
+    ensures { λ r. ⌜ r ≡ outcomes.shape e ⌝ }
+{
+    match e {
+        Event::Power => Shape::Number,
+        Event::Copied => Shape::Number,
+        Event::Write(_, _) => Shape::Number,
+        Event::Finish(_, _, _) => Shape::Number,
+        Event::Wake => Shape::Number,
+        Event::Open(_) => Shape::Number,
+        Event::Byte => Shape::Byte,
+        Event::Close(length) => Shape::Close(length),
+    }
+}
+
+// Writes what was said, in a shape.
+pub fn write_said(said: Said, shape: Shape, out: &mut [u8], at: usize) -> usize
+    ensures { λ r. ⌜ (now (out .exit), r) ≡ (now (out .entry), at) ▹ outcomes.text said shape ⌝ }
+{
+    match shape {
+        Shape::Number => bench_page::write_decimal(said.answer as u64, out, at),
+        Shape::Byte => write_value(said.answer, said.value, out, at),
+        Shape::Close(length) => write_close(said, length, out, at),
+    }
+}
+
+// Writes a number, and where it is done the register's value.
+fn write_value(answer: u8, value: u8, out: &mut [u8], at: usize) -> usize
+    ensures { λ r. ⌜ (now (out .exit), r) ≡ (now (out .entry), at) ▹ outcomes.given answer value ⌝ }
+{
+    if answer == paper::DONE {
+        return bench_row::fill(b"# @", &[answer as u64, value as u64], out, at);
+    }
+    bench_page::write_decimal(answer as u64, out, at)
+}
+
+// Writes what a close says, and the lent buffer after it.
+fn write_close(said: Said, length: usize, out: &mut [u8], at: usize) -> usize
+    ensures { λ r. ⌜ (now (out .exit), r) ≡ (now (out .entry), at) ▹ outcomes.closed said length ⌝ }
+{
+    let next = write_closing(said, out, at);
+    write_left(said, length, out, next)
+}
+
+// Writes a close's number, and where it is done what the burst showed.
+fn write_closing(said: Said, out: &mut [u8], at: usize) -> usize
+    ensures { λ r. ⌜ (now (out .exit), r) ≡ (now (out .entry), at) ▹ outcomes.closing said ⌝ }
+{
+    if said.answer == paper::DONE {
+        return write_burst(said, out, at);
+    }
+    bench_page::write_decimal(said.answer as u64, out, at)
+}
+
+// Writes what a burst showed.
+fn write_burst(said: Said, out: &mut [u8], at: usize) -> usize
+    ensures { λ r. ⌜ (now (out .exit), r) ≡ (now (out .entry), at) ▹ outcomes.burst said ⌝ }
+{
+    let next = write_whole(said.whole, out, at);
+    bench_row::fill(
+        b" n=# codes=#,#,# before=#",
+        &[
+            said.number as u64,
+            said.temperature as u64,
+            said.pressure as u64,
+            said.humidity as u64,
+            said.delivered as u64,
+        ],
+        out,
+        next,
+    )
+}
+
+// Writes whether a burst was whole.
+fn write_whole(whole: bool, out: &mut [u8], at: usize) -> usize
+    ensures { λ r. ⌜ (now (out .exit), r) ≡ (now (out .entry), at) ▹ outcomes.whole whole ⌝ }
+{
+    if whole {
+        bench_page::write_text(b"0 whole", out, at)
+    } else {
+        bench_page::write_text(b"0 partial", out, at)
+    }
+}
+
+// Writes the lent buffer: the eight bytes of a whole close, and otherwise as it was lent.
+fn write_left(said: Said, length: usize, out: &mut [u8], at: usize) -> usize
+    ensures { λ r. ⌜ (now (out .exit), r) ≡ (now (out .entry), at) ▹ buffer (outcomes.left said length) ⌝ }
+{
+    if said.whole {
+        let bytes = said.bytes;
+        return bench_row::write_buffer(&bytes, out, at);
+    }
+    write_lent(length, out, at)
+}
+
+// Writes a lent buffer as it was lent.
+fn write_lent(length: usize, out: &mut [u8], at: usize) -> usize
+    ensures { λ r. ⌜ (now (out .exit), r) ≡ (now (out .entry), at) ▹ buffer (lentOf length) ⌝ }
+{
+    let lent = bench_lent::filled();
+    let n = bench_lent::within(length);
+    bench_row::write_buffer(&lent[..n], out, at)
+}
