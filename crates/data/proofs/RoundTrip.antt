@@ -1,10 +1,10 @@
 -- Why the layout goes both ways: each is arithmetic on one channel's bytes.
-use Prim.Native.Nat.{ℕ, _+_, _*_, _/_, _%_, _<_}
+use Prim.Native.Nat.{ℕ, _*_, _/_, _%_, _<_}
 use mathlib.Core.Path.{_≡_}
 use native.Mathlib.Omega.{arith}
 use Rattle.data.specs.declared.Counts.{Counts}
 use Rattle.data.specs.Counts.{countsOf, laid, twentyBits, sixteenBits}
-use Rattle.data.specs.RoundTrip.{InRange, LaidThenCounted, AreBytes, CountedThenLaid, eight}
+use Rattle.data.specs.RoundTrip.{LaidThenCounted, AreBytes, CountedThenLaid, eight}
 
 twenty-back : (n : ℕ) → n < 1048576 → twentyBits (n / 4096 % 256) (n / 16 % 256) (n % 16 * 16) ≡ n
 twenty-back n h = omega arith

@@ -9,7 +9,6 @@ use borrow.Author.Tests.{eqb-true, ltb-true}
 use Rattle.laws.specs.Choices.{pick}
 use Rattle.laws.specs.Tests.{both}
 use Rattle.paper.specs.Numbers.{done}
-use Rattle.data.specs.RoundTrip.{InRange}
 use Rattle.machine.specs.declared.Held.{Held}
 use Rattle.machine.specs.declared.Held.the-variants as held
 use Rattle.machine.specs.declared.Machine.{Machine}
@@ -17,10 +16,10 @@ use Rattle.machine.specs.declared.Event.{Event}
 use Rattle.machine.specs.declared.Event.the-variants.{Power, Copied, Write, Finish, Wake, Open, Byte, Close}
 use Rattle.machine.specs.Events.{byteGiven}
 use Rattle.machine.specs.Event.{next, answer}
-use Rattle.ledger.specs.Happening.{Happening, began, finished, tookF4, changed}
+use Rattle.ledger.specs.Happening.{Happening, finished}
 use Rattle.ledger.specs.Device.{isConverting, beginsBy, deviceIn}
 use Rattle.ledger.specs.Answers.{numberIn}
-use Rattle.ledger.specs.Added.{takes, takesHeld, writesF4, writes, adds, added, addedAfter, history}
+use Rattle.ledger.specs.Added.{takes, takesHeld, writes, adds, added, addedAfter, history}
 use Rattle.ledger.proofs.Kept.{Kept, kept, kept-after}
 use Rattle.ledger.proofs.Numbers.{number-is}
 use Rattle.ledger_reading.specs.Reading.{WritesBytes}
