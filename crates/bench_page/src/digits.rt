@@ -5,6 +5,8 @@ ghost use lib.IntN.{natAbs};
 ghost use lib.Signed.{mag};
 ghost use Rattle.bench_page.specs.Digits as spelt;
 
+pub const MINUS: u8 = b'-';
+
 // The upper-case hex digit of a number below 16.
 pub fn hex(n: u8) -> u8
     requires { ⌜ n < 16 ⌝ }

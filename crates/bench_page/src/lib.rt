@@ -55,7 +55,7 @@ fn write_sign(z: i32, out: &mut [u8], at: usize) -> usize
     ensures { λ r. ⌜ (now (out .exit), r) ≡ (now (out .entry), at) ▹ spelt.sign z ⌝ }
 {
     if z < 0 {
-        return write_byte(b'-', out, at);
+        return write_byte(digits::MINUS, out, at);
     }
     at
 }
