@@ -37,7 +37,8 @@ quotient-is :
     (c : tie.After-quotient) →
     c .quotient .result
     ≡ run Bits64
-    (quotientLines (counted (c .before .before .before .before .before .before .before .before)) (c .before .before .before .before .before .before .b .given .0 .0) (c .before .before .d .given .0 .0))
+    (quotientLines (counted (c .before .before .before .before .before .before .before .before))
+    (c .before .before .before .before .before .before .b .given .0 .0) (c .before .before .d .given .0 .0))
 quotient-is c =
     let h : SFits w64 (c .before .before .before .before .before .before .b .given .0 .0) = search needs in
     let k : SFits w64 (c .before .before .d .given .0 .0) = search needs in

@@ -1,7 +1,6 @@
 -- `pressure::plain::offset` meets its contract: each step stays within its width, by the bounds of its operands.
 use mathlib.Core.Path.{refl}
 use mir.Syntax.{w16}
-use mir.Val.{SFits}
 use borrow.Author.Needs.{needs}
 use Rattle.steps.specs.declared.Signed.the-variants.{Bits64}
 use Rattle.steps.specs.Work.{given}
@@ -14,35 +13,17 @@ use Rattle.formula_pressure.proofs.plain.offset.Tie as tie
 abbrev entry : tie.After-struct-told3 → tie.Start
 entry c = c .before .before .before .before .before .before
 
-p4-fits : (s : tie.Start) → SFits w16 (s .args .words .p4)
-p4-fits s = search needs
-
-p5-fits : (s : tie.Start) → SFits w16 (s .args .words .p5)
-p5-fits s = search needs
-
-p6-fits : (s : tie.Start) → SFits w16 (s .args .words .p6)
-p6-fits s = search needs
-
-cast-p4 : tie.Need-cast-p4
-cast-p4 c = widened tt (p4-fits (c .before .before))
-
-cast-p5 : tie.Need-cast-p5
-cast-p5 c = widened tt (p5-fits (c .before .before .before .before))
-
-cast-p6 : tie.Need-cast-p6
-cast-p6 c = widened tt (p6-fits (c .before .before .before .before .before .before))
-
 var1 : (s : tie.Start) → Gives Bits64 350000 (given (s .args .difference)) (s .args .difference)
 var1 s = plainly (s .pre) refl
 
 p4 : (s : tie.Start) → Read Bits64 w16 32768 (s .args .words .p4)
-p4 s = word16 (p4-fits s) refl
+p4 s = word16 (search needs) refl
 
 p5 : (s : tie.Start) → Read Bits64 w16 32768 (s .args .words .p5)
-p5 s = word16 (p5-fits s) refl
+p5 s = word16 (search needs) refl
 
 p6 : (s : tie.Start) → Read Bits64 w16 32768 (s .args .words .p6)
-p6 s = word16 (p6-fits s) refl
+p6 s = word16 (search needs) refl
 
 mul-result : tie.Need-mul-result
 mul-result c = let s = entry c in fit (times (var1 s) (var1 s) refl)
@@ -77,4 +58,10 @@ returns c =
     within {e = offsetLines (s .args .words) (s .args .difference)} (onto a (onto b (plus (value b) (up (p4 s) 35 refl) refl))) 6700000000000000 refl refl
 
 pub offset-spec : {M : Type 1} → statement M
-offset-spec = tie.close (tie.spec cast-p4 cast-p5 cast-p6 mul-result mul-result-2 mul-result-3 mul-result-4 add-result mul-result-5 add-result-2 returns)
+offset-spec =
+    tie.close
+    (tie.spec
+    (λ c. widened {v = w16} {z = c .before .before .args .words .p4} tt (search needs))
+    (λ c. widened {v = w16} {z = c .before .before .before .before .args .words .p5} tt (search needs))
+    (λ c. widened {v = w16} {z = c .before .before .before .before .before .before .args .words .p6} tt (search needs))
+    mul-result mul-result-2 mul-result-3 mul-result-4 add-result mul-result-5 add-result-2 returns)

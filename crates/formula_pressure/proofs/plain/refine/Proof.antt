@@ -1,7 +1,6 @@
 -- `pressure::plain::refine` meets its contract: each step stays within its width, by the bounds of its operands.
 use mathlib.Core.Path.{refl}
 use mir.Syntax.{w16}
-use mir.Val.{SFits}
 use borrow.Author.Needs.{needs}
 use Rattle.steps.specs.declared.Signed.the-variants.{Bits64}
 use Rattle.steps.specs.Work.{given}
@@ -14,35 +13,17 @@ use Rattle.formula_pressure.proofs.plain.refine.Tie as tie
 abbrev entry : tie.After-struct-told3 → tie.Start
 entry c = c .before .before .before .before .before .before
 
-p7-fits : (s : tie.Start) → SFits w16 (s .args .words .p7)
-p7-fits s = search needs
-
-p8-fits : (s : tie.Start) → SFits w16 (s .args .words .p8)
-p8-fits s = search needs
-
-p9-fits : (s : tie.Start) → SFits w16 (s .args .words .p9)
-p9-fits s = search needs
-
-cast-p7 : tie.Need-cast-p7
-cast-p7 c = widened tt (p7-fits (c .before .before))
-
-cast-p8 : tie.Need-cast-p8
-cast-p8 c = widened tt (p8-fits (c .before .before .before .before))
-
-cast-p9 : tie.Need-cast-p9
-cast-p9 c = widened tt (p9-fits (c .before .before .before .before .before .before))
-
 p : (s : tie.Start) → Gives Bits64 68719476736 (given (s .args .p)) (s .args .p)
 p s = plainly (s .pre) refl
 
 p7 : (s : tie.Start) → Read Bits64 w16 32768 (s .args .words .p7)
-p7 s = word16 (p7-fits s) refl
+p7 s = word16 (search needs) refl
 
 p8 : (s : tie.Start) → Read Bits64 w16 32768 (s .args .words .p8)
-p8 s = word16 (p8-fits s) refl
+p8 s = word16 (search needs) refl
 
 p9 : (s : tie.Start) → Read Bits64 w16 32768 (s .args .words .p9)
-p9 s = word16 (p9-fits s) refl
+p9 s = word16 (search needs) refl
 
 mul-var1 : tie.Need-mul-var1
 mul-var1 c = let s = entry c in fit (times (p9 s) (down (p s) 13 refl) refl)
@@ -86,4 +67,10 @@ returns c =
     within {e = refinedLines (s .args .words) (s .args .p)} (onto var1 (onto var2 last)) 4294967296 refl refl
 
 pub refine-spec : {M : Type 1} → statement M
-refine-spec = tie.close (tie.spec cast-p7 cast-p8 cast-p9 mul-var1 mul-var1-2 mul-var2 add-result add-result-2 mul-result add-result-3 returns)
+refine-spec =
+    tie.close
+    (tie.spec
+    (λ c. widened {v = w16} {z = c .before .before .args .words .p7} tt (search needs))
+    (λ c. widened {v = w16} {z = c .before .before .before .before .args .words .p8} tt (search needs))
+    (λ c. widened {v = w16} {z = c .before .before .before .before .before .before .args .words .p9} tt (search needs))
+    mul-var1 mul-var1-2 mul-var2 add-result add-result-2 mul-result add-result-3 returns)
