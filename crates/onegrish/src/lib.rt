@@ -45,7 +45,8 @@ pub extern "C" fn onegrish_compensate(
     numbers: &mut [u8],
     values: &mut [i64],
 ) -> u8
-    ensures { λ r. ⌜ (r, now (numbers .exit), now (values .exit)) ≡ readingInto (compensated (now (one .entry)) (now (two .entry)) (now (bytes .entry)) t p h) (now (numbers .entry)) (now (values .entry)) ⌝ }
+    ensures { λ r. ⌜ (r, now (numbers .exit), now (values .exit))
+        ≡ readingInto (compensated (now (one .entry)) (now (two .entry)) (now (bytes .entry)) t p h) (now (numbers .entry)) (now (values .entry)) ⌝ }
 {
     channels::hand_reading(
         compensation::compensate(one, two, bytes, t, p, h),
@@ -153,7 +154,8 @@ pub extern "C" fn onegrish_i2c_decode(
     address: &mut u8,
     length: &mut usize,
 ) -> u8
-    ensures { λ r. ⌜ (r, now (address .exit), now (length .exit), now (lent .exit)) ≡ pairsInto (decodedWrite I2c (now (bytes .entry)) (now (lent .entry))) (now (address .entry)) (now (length .entry)) ⌝ }
+    ensures { λ r. ⌜ (r, now (address .exit), now (length .exit), now (lent .exit))
+        ≡ pairsInto (decodedWrite I2c (now (bytes .entry)) (now (lent .entry))) (now (address .entry)) (now (length .entry)) ⌝ }
 {
     messages::hand_pairs(bus::decode_write(Bus::I2c, bytes, lent), address, length)
 }

@@ -33,7 +33,8 @@ pub extern "C" fn onegrish_compensate_words(
     numbers: &mut [u8],
     values: &mut [i64],
 ) -> u8
-    ensures { λ r. ⌜ (r, now (numbers .exit), now (values .exit)) ≡ readingInto (compensatedKept (now (words .entry)) (now (bytes .entry)) t p h) (now (numbers .entry)) (now (values .entry)) ⌝ }
+    ensures { λ r. ⌜ (r, now (numbers .exit), now (values .exit))
+        ≡ readingInto (compensatedKept (now (words .entry)) (now (bytes .entry)) t p h) (now (numbers .entry)) (now (values .entry)) ⌝ }
 {
     channels::hand_reading(compensate_kept(words, bytes, t, p, h), numbers, values)
 }

@@ -14,7 +14,8 @@ use Rattle.measure_cycles.proofs.speed_cycles.Statement.{statement}
 use Rattle.measure_cycles.proofs.speed_cycles.Tie as tie
 
 module _ (f4 t p h : ℕ) where
-  one-more : (n i : ℕ) (m : Machine) (seen : ℕ) (lent : List ℕ) (r : Ridden) (after : List ℕ) → i < n → (r, after) ≡ ridden m seen f4 t p h lent → cycled (n - (i + 1)) (r .machine) (r .seen) f4 t p h after ≡ cycled (n - i) m seen f4 t p h lent
+  one-more : (n i : ℕ) (m : Machine) (seen : ℕ) (lent : List ℕ) (r : Ridden) (after : List ℕ) → i < n → (r, after) ≡ ridden m seen f4 t p h lent
+      → cycled (n - (i + 1)) (r .machine) (r .seen) f4 t p h after ≡ cycled (n - i) m seen f4 t p h lent
   unfolding cycled
   one-more n i m seen lent r after l e =
       let z : n - i ≡ suc (n - (i + 1)) = omega arith in
@@ -45,7 +46,9 @@ loop-again c =
     let t = r .before .before in
     let l = t .before .loop in
     let a = t .before .before .before .before .before .before .args in
-    (search needs, (search needs, one-more (a .f4) (a .t) (a .p) (a .h) (a .n) (l .i) (l .m) (l .seen) (l .lent) (r .ride .result) (r .ride .last .1 .1 .1 .1 .1 .1 .0) (t .loop-test .taken) (r .ride .ensures) ∙ l .inv .1 .1))
+    let after = r .ride .last .1 .1 .1 .1 .1 .1 .0 in
+    let more = one-more (a .f4) (a .t) (a .p) (a .h) (a .n) (l .i) (l .m) (l .seen) (l .lent) (r .ride .result) after (t .loop-test .taken) (r .ride .ensures) in
+    (search needs, (search needs, more ∙ l .inv .1 .1))
 
 returns : tie.Need-returns Inv-loop μ-loop
 returns c =
@@ -56,4 +59,17 @@ returns c =
     ∙ (l .inv .1 .1 ∙ ap (λ (o : Outcome). cycled (a .n) (o .machine) 0 (a .f4) (a .t) (a .p) (a .h) (a .lent .now)) (k .copied .ensures ∙ ap copyingEnded (k .before .fresh .ensures)))
 
 pub speed-cycles-spec : {M : Type 1} → statement M
-speed-cycles-spec = tie.close (tie.spec Inv-loop μ-loop (λ c κs. search needs) (λ c κs. search needs) loop-holds (λ c κs. search needs) (λ c. search needs) (λ c. search needs) loop-again (λ c. search needs) returns)
+speed-cycles-spec =
+    tie.close
+    (tie.spec
+    Inv-loop
+    μ-loop
+    (λ c κs. search needs)
+    (λ c κs. search needs)
+    loop-holds
+    (λ c κs. search needs)
+    (λ c. search needs)
+    (λ c. search needs)
+    loop-again
+    (λ c. search needs)
+    returns)

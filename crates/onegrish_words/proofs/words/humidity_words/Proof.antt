@@ -40,4 +40,16 @@ returns c =
     cc (toZ-ofZ h1, toZ-ofZ h2, toZ-ofZ h3, toZ-ofZ h4, toZ-ofZ h5, toZ-ofZ h6, toZ-ofZ h)
 
 pub humidity-words-spec : {M : Type 1} → statement M
-humidity-words-spec = tie.close (tie.spec (λ c κs. search needs) byte-requires (λ c κs. search needs) (λ c κs. search needs) byte-requires-2 (λ c κs. search needs) (λ c κs. search needs) (λ c κs. search needs) signed-byte-requires returns)
+humidity-words-spec =
+    tie.close
+    (tie.spec
+    (λ c κs. search needs)
+    byte-requires
+    (λ c κs. search needs)
+    (λ c κs. search needs)
+    byte-requires-2
+    (λ c κs. search needs)
+    (λ c κs. search needs)
+    (λ c κs. search needs)
+    signed-byte-requires
+    returns)

@@ -17,4 +17,16 @@ returns c =
     rw (e, toZ-ofZ (c .fits .a), toZ-ofZ (c .fits .b), toZ-ofZ (c .fits .c))
 
 pub lay-three-spec : {M : Type 1} → statement M
-lay-three-spec = tie.close (tie.spec (λ c. search needs) (λ c. search needs) (λ c. search needs) (λ c. search needs) slice-set-from-b (λ c. search needs) (λ c. search needs) (λ c. search needs) (λ c. search needs) returns)
+lay-three-spec =
+    tie.close
+    (tie.spec
+    (λ c. search needs)
+    (λ c. search needs)
+    (λ c. search needs)
+    (λ c. search needs)
+    slice-set-from-b
+    (λ c. search needs)
+    (λ c. search needs)
+    (λ c. search needs)
+    (λ c. search needs)
+    returns)

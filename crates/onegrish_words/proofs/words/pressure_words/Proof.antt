@@ -20,4 +20,17 @@ returns c =
     cc (toZ-ofZ h1, toZ-ofZ h2, toZ-ofZ h3, toZ-ofZ h4, toZ-ofZ h5, toZ-ofZ h6, toZ-ofZ h7, toZ-ofZ h8, toZ-ofZ h9)
 
 pub pressure-words-spec : {M : Type 1} → statement M
-pressure-words-spec = tie.close (tie.spec (λ c κs. search needs) (λ c κs. search needs) (λ c κs. search needs) (λ c κs. search needs) (λ c κs. search needs) (λ c κs. search needs) (λ c κs. search needs) (λ c κs. search needs) (λ c κs. search needs) (λ c κs. search needs) returns)
+pressure-words-spec =
+    tie.close
+    (tie.spec
+    (λ c κs. search needs)
+    (λ c κs. search needs)
+    (λ c κs. search needs)
+    (λ c κs. search needs)
+    (λ c κs. search needs)
+    (λ c κs. search needs)
+    (λ c κs. search needs)
+    (λ c κs. search needs)
+    (λ c κs. search needs)
+    (λ c κs. search needs)
+    returns)
