@@ -1,61 +1,127 @@
-// The bench's lines: each command of a line, over the libraries, and its answer on a page.
+// The bench's lines: each is read into a command, which is run over the libraries, and its answer is written on a page.
 ghost use mathlib.Core.Path.{_≡_};
+ghost use Rattle.bench_page.specs.Page.{_▹_};
+ghost use Rattle.bench_phrases.specs.Phrases.{refused, ended};
 ghost use Rattle.bench_answer.specs.Answers as answers;
 use bench_command::Asked;
 use bench_command::Command;
 use bench_machine::Answered;
+use bench_numbers::Reason;
+use bench_numbers::front;
+use bench_numbers::rest;
 use machine::Machine;
+
+// The most bytes among the words of a line: two digits make one.
+pub const MOST_BYTES: usize = 2048;
 
 // Answers a line: writes the answer and a newline on the page from a place on, and gives the machine afterwards.
 // An empty line is passed over.
 pub fn answer(line: &[u8], m: Machine, out: &mut [u8], at: usize) -> Answered
     ensures { λ r. ⌜ (r .machine, (now (out .exit), r .at)) ≡ answers.answered (now (line .entry)) m (now (out .entry), at) ⌝ }
 {
-    answer_asked(bench_command::read(line), line, m, out, at)
+    let mut bytes = [0u8; MOST_BYTES];
+    let asked = bench_command::read(line, &mut bytes);
+    answer_asked(asked, &bytes, m, out, at)
 }
 
-// Answers what a line asks.
-fn answer_asked(asked: Asked, line: &[u8], m: Machine, out: &mut [u8], at: usize) -> Answered
-    ensures { λ r. ⌜ (r .machine, (now (out .exit), r .at)) ≡ answers.askedAnswered asked (now (line .entry)) m (now (out .entry), at) ⌝ }
+// Answers what a line asks, with its bytes.
+fn answer_asked(asked: Asked, bytes: &[u8], m: Machine, out: &mut [u8], at: usize) -> Answered
+    ensures { λ r. ⌜ (r .machine, (now (out .exit), r .at)) ≡ answers.askedAnswered asked (now (bytes .entry)) m (now (out .entry), at) ⌝ }
 {
     match asked {
-        Asked::Nothing => Answered { machine: m, at },
-        Asked::Refused(reason) => {
-            let next = bench_phrases::refuse(reason, out, at);
-            Answered {
-                machine: m,
-                at: bench_phrases::end(out, next),
-            }
-        }
-        Asked::Command(command) => {
-            let done = run(command, line, m, out, at);
-            let machine = done.machine;
-            let next = done.at;
-            Answered {
-                machine,
-                at: bench_phrases::end(out, next),
-            }
-        }
+        Asked::Nothing => stay(m, at),
+        Asked::Refused(reason) => stay(m, refuse(reason, out, at)),
+        Asked::Command(command) => end(run(command, bytes, m, out, at), out),
     }
+}
+
+// Writes why a line is refused, and a newline.
+fn refuse(reason: Reason, out: &mut [u8], at: usize) -> usize
+    ensures { λ r. ⌜ (now (out .exit), r) ≡ ended (refused reason (now (out .entry), at)) ⌝ }
+{
+    let next = bench_phrases::refuse(reason, out, at);
+    bench_phrases::end(out, next)
+}
+
+// Writes a newline after an answer.
+fn end(done: Answered, out: &mut [u8]) -> Answered
+    ensures { λ r. ⌜ (r .machine, (now (out .exit), r .at)) ≡ (done .machine, ended (now (out .entry), done .at)) ⌝ }
+{
+    let machine = done.machine;
+    stay(machine, bench_phrases::end(out, done.at))
 }
 
 // Answers a command, but for the newline.
-fn run(command: Command, line: &[u8], m: Machine, out: &mut [u8], at: usize) -> Answered
-    ensures { λ r. ⌜ (r .machine, (now (out .exit), r .at)) ≡ answers.ran command (now (line .entry)) m (now (out .entry), at) ⌝ }
+fn run(command: Command, bytes: &[u8], m: Machine, out: &mut [u8], at: usize) -> Answered
+    ensures { λ r. ⌜ (r .machine, (now (out .exit), r .at)) ≡ answers.ran command (now (bytes .entry)) m (now (out .entry), at) ⌝ }
 {
     match command {
-        Command::Reading(reading) => Answered {
-            machine: m,
-            at: bench_reading::answer(reading, line, out, at),
-        },
-        Command::Time(time) => Answered {
-            machine: m,
-            at: bench_waiting::answer(time, line, out, at),
-        },
-        Command::Message(message) => Answered {
-            machine: m,
-            at: bench_bus::answer(message, line, out, at),
-        },
-        Command::Happening(happening) => bench_machine::answer(happening, line, m, out, at),
+        Command::Event(event) => bench_machine::event(m, event, out, at),
+        Command::Fresh(conversions) => bench_machine::fresh(conversions, out, at),
+        Command::Ledger => stay(m, bench_machine::ledger(m, out, at)),
+        Command::Cal(one, two) => stay(m, cal(one, two, bytes, out, at)),
+        Command::Comp(one, two, raw, t, p, h) => stay(
+            m,
+            comp(one, two, raw, t, p, h, bytes, out, at),
+        ),
+        Command::WaitMaximum(t, p, h) => stay(m, bench_waiting::wait_maximum(t, p, h, out, at)),
+        Command::WaitTypical(t, p, h) => stay(m, bench_waiting::wait_typical(t, p, h, out, at)),
+        Command::Poll(allowance, status) => stay(
+            m,
+            bench_waiting::poll(front(bytes, status), allowance, out, at),
+        ),
+        Command::BusWrite(device, pairs, room) => stay(
+            m,
+            bench_bus::write(device, front(bytes, pairs), room, out, at),
+        ),
+        Command::BusDecode(bus, message, room) => stay(
+            m,
+            bench_bus::decode(bus, front(bytes, message), room, out, at),
+        ),
+        Command::BusRead(device, register, room) => stay(
+            m,
+            bench_bus::read(device, register, room, out, at),
+        ),
     }
+}
+
+// The machine stays as it is.
+fn stay(m: Machine, at: usize) -> Answered
+    ensures { λ r. ⌜ (r .machine ≡ m) × (r .at ≡ at) ⌝ }
+{
+    Answered { machine: m, at }
+}
+
+// The words of two blocks, which are laid one after the other.
+fn cal(one: usize, two: usize, bytes: &[u8], out: &mut [u8], at: usize) -> usize
+    ensures { λ r. ⌜ (now (out .exit), r) ≡ (now (out .entry), at) ▹ answers.cal one two (now (bytes .entry)) ⌝ }
+{
+    bench_reading::cal(front(bytes, one), front(rest(bytes, one), two), out, at)
+}
+
+// The reading of two blocks and the data, which are laid one after another.
+fn comp(
+    one: usize,
+    two: usize,
+    raw: usize,
+    t: u8,
+    p: u8,
+    h: u8,
+    bytes: &[u8],
+    out: &mut [u8],
+    at: usize,
+) -> usize
+    ensures { λ r. ⌜ (now (out .exit), r) ≡ (now (out .entry), at) ▹ answers.comp one two raw t p h (now (bytes .entry)) ⌝ }
+{
+    let after = rest(bytes, one);
+    bench_reading::comp(
+        front(bytes, one),
+        front(after, two),
+        front(rest(after, two), raw),
+        t,
+        p,
+        h,
+        out,
+        at,
+    )
 }

@@ -1,12 +1,20 @@
 -- What the line asks, answered.
-use Rattle.bench_answer.specs.Answers.{answered}
+use Rattle.bench_answer.specs.Answers.{zeros, answered}
 use borrow.Author.Needs.{needs}
 use Rattle.bench_answer.proofs.answer.Statement.{statement}
 use Rattle.bench_answer.proofs.answer.Tie as tie
 
 returns : tie.Need-returns
-unfolding answered
-returns c = rw (c .before .before .answer-asked .ensures, c .before .before .before .before .read .ensures)
+unfolding answered zeros
+returns c = rw (c .before .before .answer-asked .ensures, ← c .before .before .before .before .before .before .read .ensures)
 
 pub answer-spec : {M : Type 1} → statement M
-answer-spec = tie.close (tie.spec (λ c κs. tt) (λ c κs. tt) (λ c. search needs) returns)
+answer-spec =
+    tie.close
+    (tie.spec
+    (λ c. search needs)
+    (λ c κs. search needs)
+    (λ c. search needs)
+    (λ c κs. search needs)
+    (λ c. search needs)
+    returns)
