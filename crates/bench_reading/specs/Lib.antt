@@ -1,2 +1,3 @@
 -- The answers of cal and comp.
 pub mod Reading
+pub mod Examples

@@ -1,2 +1,3 @@
 -- Rows as text.
 pub mod Row
+pub mod Examples

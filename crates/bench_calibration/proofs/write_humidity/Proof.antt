@@ -33,4 +33,17 @@ returns c =
     rw (c .before .before .fill-signed .ensures, h1 s, h2 s, h3 s, h4 s, h5 s, h6 s)
 
 pub write-humidity-spec : {M : Type 1} → statement M
-write-humidity-spec = tie.close (tie.spec (λ c. refl) (λ c. search needs) (λ c. search (needs, word-fits)) (λ c. search needs) (λ c. search (needs, word-fits)) (λ c. search (needs, word-fits)) (λ c. search (needs, octet-fits)) (λ c. refl) (λ c κs. tt) (λ c. search needs) returns)
+write-humidity-spec =
+    tie.close
+    (tie.spec
+    (λ c. refl)
+    (λ c. search needs)
+    (λ c. search (needs, word-fits))
+    (λ c. search needs)
+    (λ c. search (needs, word-fits))
+    (λ c. search (needs, word-fits))
+    (λ c. search (needs, octet-fits))
+    (λ c. refl)
+    (λ c κs. tt)
+    (λ c. search needs)
+    returns)

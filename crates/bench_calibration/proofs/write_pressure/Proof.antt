@@ -43,4 +43,20 @@ returns c =
     rw (c .before .before .fill-signed .ensures, p1 s, p2 s, p3 s, p4 s, p5 s, p6 s, p7 s, p8 s, p9 s)
 
 pub write-pressure-spec : {M : Type 1} → statement M
-write-pressure-spec = tie.close (tie.spec (λ c. refl) (λ c. search needs) (λ c. search (needs, word-fits)) (λ c. search (needs, word-fits)) (λ c. search (needs, word-fits)) (λ c. search (needs, word-fits)) (λ c. search (needs, word-fits)) (λ c. search (needs, word-fits)) (λ c. search (needs, word-fits)) (λ c. search (needs, word-fits)) (λ c. refl) (λ c κs. tt) (λ c. search needs) returns)
+write-pressure-spec =
+    tie.close
+    (tie.spec
+    (λ c. refl)
+    (λ c. search needs)
+    (λ c. search (needs, word-fits))
+    (λ c. search (needs, word-fits))
+    (λ c. search (needs, word-fits))
+    (λ c. search (needs, word-fits))
+    (λ c. search (needs, word-fits))
+    (λ c. search (needs, word-fits))
+    (λ c. search (needs, word-fits))
+    (λ c. search (needs, word-fits))
+    (λ c. refl)
+    (λ c κs. tt)
+    (λ c. search needs)
+    returns)

@@ -24,4 +24,15 @@ returns c =
     rw (c .before .before .fill-signed .ensures, t1 s, t2 s, t3 s)
 
 pub write-temperature-spec : {M : Type 1} → statement M
-write-temperature-spec = tie.close (tie.spec (λ c. refl) (λ c. search needs) (λ c. search needs) (λ c. search (needs, word-fits)) (λ c. search (needs, word-fits)) (λ c. refl) (λ c κs. tt) (λ c. search needs) returns)
+write-temperature-spec =
+    tie.close
+    (tie.spec
+    (λ c. refl)
+    (λ c. search needs)
+    (λ c. search needs)
+    (λ c. search (needs, word-fits))
+    (λ c. search (needs, word-fits))
+    (λ c. refl)
+    (λ c κs. tt)
+    (λ c. search needs)
+    returns)

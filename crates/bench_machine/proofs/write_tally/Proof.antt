@@ -11,4 +11,19 @@ unfolding tally
 returns c = rw (c .before .before .fill .ensures, flag, flag, flag)
 
 pub write-tally-spec : {M : Type 1} → statement M
-write-tally-spec = tie.close (tie.spec (λ c. refl) (λ c. search needs) (λ c. search needs) (λ c. search needs) (λ c. search needs) (λ c. search needs) (λ c. search needs) (λ c. search needs) (λ c. search needs) (λ c. refl) (λ c κs. tt) (λ c. search needs) returns)
+write-tally-spec =
+    tie.close
+    (tie.spec
+    (λ c. refl)
+    (λ c. search needs)
+    (λ c. search needs)
+    (λ c. search needs)
+    (λ c. search needs)
+    (λ c. search needs)
+    (λ c. search needs)
+    (λ c. search needs)
+    (λ c. search needs)
+    (λ c. refl)
+    (λ c κs. tt)
+    (λ c. search needs)
+    returns)

@@ -14,4 +14,17 @@ returns c =
     joined _ _ _ (t .before .before .before .write-whole .ensures) (rw flag at (c .before .before .fill .ensures))
 
 pub write-burst-spec : {M : Type 1} → statement M
-write-burst-spec = tie.close (tie.spec (λ c κs. tt) (λ c. refl) (λ c. search needs) (λ c. search needs) (λ c. search needs) (λ c. search needs) (λ c. search needs) (λ c. refl) (λ c κs. tt) (λ c. search needs) returns)
+write-burst-spec =
+    tie.close
+    (tie.spec
+    (λ c κs. tt)
+    (λ c. refl)
+    (λ c. search needs)
+    (λ c. search needs)
+    (λ c. search needs)
+    (λ c. search needs)
+    (λ c. search needs)
+    (λ c. refl)
+    (λ c κs. tt)
+    (λ c. search needs)
+    returns)
