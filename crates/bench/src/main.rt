@@ -1,6 +1,6 @@
 // The bench: reads commands from standard input, one a line, and writes their answers to standard output.
 ghost use Prim.Native.Nat.{_≤_};
-use bench_numbers::front;
+use bench_bytes::front;
 use libc::STDERR_FILENO;
 use libc::STDIN_FILENO;
 use libc::STDOUT_FILENO;

@@ -45,10 +45,14 @@ ran (the.Fresh conversions) bytes m page = outcomes.fresh conversions page
 ran (the.Event event) bytes m page = outcomes.event m event page
 ran the.Ledger bytes m page = (m, page ▹ outcomes.tally (tallied m))
 
+-- with the newline
+abbrev pub lineEnded : Machine × Page → Machine × Page
+lineEnded done = (done .0, ended (done .1))
+
 abbrev pub askedAnswered : Asked → List ℕ → Machine → Page → Machine × Page
 askedAnswered asks.Nothing bytes m page = (m, page)
 askedAnswered (asks.Refused reason) bytes m page = (m, ended (refused reason page))
-askedAnswered (asks.Command c) bytes m page = (ran c bytes m page .0, ended (ran c bytes m page .1))
+askedAnswered (asks.Command c) bytes m page = lineEnded (ran c bytes m page)
 
 -- ---- a line, read into zeros: two digits make a byte, so that it has at most 2,048
 

@@ -3,12 +3,12 @@ ghost use mathlib.Core.Path.{_≡_};
 ghost use Rattle.bench_page.specs.Page.{_▹_};
 ghost use Rattle.bench_phrases.specs.Phrases.{refused, ended};
 ghost use Rattle.bench_answer.specs.Answers as answers;
+use bench_bytes::front;
+use bench_bytes::rest;
 use bench_command::Asked;
 use bench_command::Command;
 use bench_machine::Answered;
 use bench_numbers::Reason;
-use bench_numbers::front;
-use bench_numbers::rest;
 use machine::Machine;
 
 // The most bytes among the words of a line: two digits make one.
@@ -45,7 +45,7 @@ fn refuse(reason: Reason, out: &mut [u8], at: usize) -> usize
 
 // Writes a newline after an answer.
 fn end(done: Answered, out: &mut [u8]) -> Answered
-    ensures { λ r. ⌜ (r .machine, (now (out .exit), r .at)) ≡ (done .machine, ended (now (out .entry), done .at)) ⌝ }
+    ensures { λ r. ⌜ (r .machine, (now (out .exit), r .at)) ≡ answers.lineEnded (done .machine, (now (out .entry), done .at)) ⌝ }
 {
     let machine = done.machine;
     stay(machine, bench_phrases::end(out, done.at))

@@ -1,6 +1,5 @@
 // Arguments of a line read: what the word at a place of the line stands for, as a number or as bytes.
 ghost use mathlib.Core.Path.{_≡_};
-ghost use lib.ListN.{take, drop};
 ghost use Rattle.bench_numbers.specs.Reading as reading;
 
 mod digits;
@@ -37,22 +36,4 @@ pub fn read(kind: u8, line: &[u8], from: usize, lent: &mut [u8], place: usize) -
         return pairs::read_bytes(line, from, lent, place);
     }
     numbers::beside(numbers::read(kind, line, from), place)
-}
-
-// The first n bytes, or all where there are fewer.
-pub fn front(bytes: &[u8], n: usize) -> &[u8]
-    ensures { λ r. ⌜ now r ≡ take n (now (bytes .entry)) ⌝ }
-{
-    if n <= bytes.len() { &bytes[..n] } else { bytes }
-}
-
-// What stands after the first n bytes, and none where there are fewer.
-pub fn rest(bytes: &[u8], n: usize) -> &[u8]
-    ensures { λ r. ⌜ now r ≡ drop n (now (bytes .entry)) ⌝ }
-{
-    if n <= bytes.len() {
-        &bytes[n..]
-    } else {
-        &bytes[bytes.len()..]
-    }
 }

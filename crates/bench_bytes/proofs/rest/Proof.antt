@@ -6,8 +6,8 @@ use mathlib.Core.Path.{_≡_, sym, _∙_}
 use lib.ListN.{length, take, drop, length-drop, drop-of-length-le}
 use lib.Seq.{take-all}
 use borrow.Author.Needs.{needs}
-use Rattle.bench_numbers.proofs.rest.Statement.{statement}
-use Rattle.bench_numbers.proofs.rest.Tie as tie
+use Rattle.bench_bytes.proofs.rest.Statement.{statement}
+use Rattle.bench_bytes.proofs.rest.Tie as tie
 
 whole : (n : ℕ) (s : List ℕ) → take (length s - n) (drop n s) ≡ drop n s
 whole n s = take-all (length s - n) (drop n s) (rw (length-drop n s) (omega arith))
