@@ -36,7 +36,9 @@ pub record Commands : Type 0 where
   pub ledger : asked (letters "ledger") [] ≡ (Command the.Ledger, [])
 
 pub commands-read : Commands
-unfolding asked table.tried table.commands table.isOf table.fits table.askedBy words.count arguments.isArgument arguments.start arguments.stepped arguments.walked word reading.argument reading.number reading.octet reading.pair reading.secondDigit reading.decimal reading.readOn reading.bytes reading.wordLaid reading.isDash reading.pairsLaid reading.digitValue reading.letterValue
+unfolding asked table.tried table.commands table.isOf table.fits table.askedBy words.count arguments.isArgument arguments.start arguments.stepped arguments.walked word
+    reading.argument reading.number reading.octet reading.pair reading.secondDigit reading.decimal reading.readOn reading.bytes reading.wordLaid reading.isDash
+    reading.pairsLaid reading.digitValue reading.letterValue
 commands-read =
     record {
       cal = refl;
@@ -75,7 +77,9 @@ pub record Refusals : Type 0 where
   pub long-buffer : asked (letters "spi write F427 257") (9 ∷ 9 ∷ 9 ∷ []) ≡ (Refused TooLong, 0xF4 ∷ 0x27 ∷ 9 ∷ [])
 
 pub refusals-read : Refusals
-unfolding asked table.tried table.commands table.isOf table.fits table.askedBy words.count arguments.isArgument arguments.start arguments.stepped arguments.walked word reading.argument reading.number reading.octet reading.pair reading.secondDigit reading.decimal reading.readOn reading.bytes reading.wordLaid reading.isDash reading.pairsLaid reading.digitValue reading.letterValue
+unfolding asked table.tried table.commands table.isOf table.fits table.askedBy words.count arguments.isArgument arguments.start arguments.stepped arguments.walked word
+    reading.argument reading.number reading.octet reading.pair reading.secondDigit reading.decimal reading.readOn reading.bytes reading.wordLaid reading.isDash
+    reading.pairsLaid reading.digitValue reading.letterValue
 refusals-read =
     record {
       empty = refl;

@@ -15,9 +15,9 @@ use Rattle.bench_page.specs.Page.{Page, letters, _▹_}
 use Rattle.bench_page.specs.Digits.{decimal}
 use Rattle.bench_row.specs.Row.{filled, buffer}
 use Rattle.bench_lent.specs.Lent.{lentOf}
-use Rattle.bench_machine.specs.declared.told.Said.{Said}
-use Rattle.bench_machine.specs.declared.told.Shape.{Shape}
-use Rattle.bench_machine.specs.declared.told.Shape.the-variants.{Number, Byte, Close}
+use Rattle.bench_machine.specs.declared.wording.Said.{Said}
+use Rattle.bench_machine.specs.declared.wording.Shape.{Shape}
+use Rattle.bench_machine.specs.declared.wording.Shape.the-variants.{Number, Byte, Close}
 
 abbrev pub bit : Bool → ℕ
 bit b = cond b 1 0

@@ -3,13 +3,13 @@ ghost use mathlib.Core.Path.{_≡_};
 ghost use Rattle.bench_page.specs.Page.{_▹_};
 ghost use Rattle.machine.specs.Counts.{tallied};
 ghost use Rattle.bench_machine.specs.Outcomes as outcomes;
-use crate::told::Said;
+use crate::wording::Said;
 use machine::Event;
 use machine::Machine;
 use machine::Outcome;
 use machine::Tally;
 
-mod told;
+mod wording; // how an outcome is worded
 
 // The machine after a command, and the page's next place.
 pub struct Answered {
@@ -25,7 +25,7 @@ pub fn event(m: Machine, e: Event, out: &mut [u8], at: usize) -> Answered
     let machine = outcome.machine;
     Answered {
         machine,
-        at: told::write_said(said_by(outcome), told::shape_of(e), out, at),
+        at: wording::write_said(said_by(outcome), wording::shape_of(e), out, at),
     }
 }
 

@@ -32,7 +32,13 @@ module _ (device : Device) (pairs : List ℕ) (d : isDevice device ≡ true) (a 
   sent-shaped =
       let even : isEven wire ≡ true = rw (changed-length (sending (busOf device)) pairs) (pairs-even pairs a) in
       let some : 1 ≤ length (message device pairs) = omega (arith, message-length device pairs, pairs-some pairs a) in
-      rw (le-leb 1 (length (message device pairs)) some, led device wire d, after-leading device wire, even, every-changed isWritable (sending (busOf device)) (isCarried (busOf device)) (λ register h. carried (busOf device) register) pairs w)
+      rw (
+        le-leb 1 (length (message device pairs)) some,
+        led device wire d,
+        after-leading device wire,
+        even,
+        every-changed isWritable (sending (busOf device)) (isCarried (busOf device)) (λ register h. carried (busOf device) register) pairs w,
+      )
 
   sent-pairs : pairsOf (busOf device) (message device pairs) ≡ pairs
   unfolding pairsOf message

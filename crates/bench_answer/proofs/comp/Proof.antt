@@ -4,7 +4,14 @@ use Rattle.bench_answer.proofs.comp.Statement.{statement}
 use Rattle.bench_answer.proofs.comp.Tie as tie
 
 returns : tie.Need-returns
-returns c = rw (c .before .before .comp .ensures, c .before .before .before .before .front3 .ensures, c .before .before .before .before .before .rest2 .ensures, c .before .before .before .before .before .before .front2 .ensures, c .before .before .before .before .before .before .before .front .ensures, c .before .before .before .before .before .before .before .before .rest .ensures)
+returns c = rw (
+  c .before .before .comp .ensures,
+  c .before .before .before .before .front3 .ensures,
+  c .before .before .before .before .before .rest2 .ensures,
+  c .before .before .before .before .before .before .front2 .ensures,
+  c .before .before .before .before .before .before .before .front .ensures,
+  c .before .before .before .before .before .before .before .before .rest .ensures,
+)
 
 pub comp-spec : {M : Type 1} → statement M
 comp-spec =

@@ -38,7 +38,8 @@ returns c =
     let b = r .before in
     let table = b .before .before .before .before .before .before .args .table .now in
     c .before .before .ask .ensures
-    ∙ asks table (b .before .loop .at) (b .loop-test .taken) (r .row-end .result) (r .row-end .ensures) (b .before .loop .number) (b .before .loop .inv .2) _ _ _ _ (sym (d .if1 .taken) ∙ d .before .is-of .ensures)
+    ∙ asks table (b .before .loop .at) (b .loop-test .taken) (r .row-end .result) (r .row-end .ensures) (b .before .loop .number) (b .before .loop .inv .2) _ _ _ _
+    (sym (d .if1 .taken) ∙ d .before .is-of .ensures)
     ∙ b .before .loop .inv .3
 
 loop-less : tie.Need-loop-less Inv-loop μ-loop
@@ -61,7 +62,8 @@ loop-again c =
       b .before .loop .inv .1,
       texts-on table at h (r .row-end .result) (r .row-end .ensures) (b .before .loop .number) (b .before .loop .inv .2) p (c .past .ensures),
       rw (c .before .fits2 .ensures)
-          (sym (goes-on table at h (r .row-end .result) (r .row-end .ensures) (b .before .loop .number) (b .before .loop .inv .2) p (c .past .ensures) _ _ _ _ (sym (d .if1 .left) ∙ d .before .is-of .ensures))
+          (sym (goes-on table at h (r .row-end .result) (r .row-end .ensures) (b .before .loop .number) (b .before .loop .inv .2) p (c .past .ensures) _ _ _ _
+          (sym (d .if1 .left) ∙ d .before .is-of .ensures))
           ∙ b .before .loop .inv .3),
     )
 
