@@ -3,13 +3,11 @@ ghost use mathlib.Core.Path.{_≡_};
 ghost use Rattle.bench_page.specs.Page.{_▹_};
 ghost use Rattle.machine.specs.Counts.{tallied};
 ghost use Rattle.bench_machine.specs.Outcomes as outcomes;
-use crate::wording::Said;
+use bench_outcome::Said;
+use bench_outcome::Shape;
 use machine::Event;
 use machine::Machine;
 use machine::Outcome;
-use machine::Tally;
-
-mod wording; // how an outcome is worded
 
 // The machine after a command, and the page's next place.
 pub struct Answered {
@@ -25,7 +23,7 @@ pub fn event(m: Machine, e: Event, out: &mut [u8], at: usize) -> Answered
     let machine = outcome.machine;
     Answered {
         machine,
-        at: wording::write_said(said_by(outcome), wording::shape_of(e), out, at),
+        at: bench_outcome::write_said(said_by(outcome), shape_of(e), out, at),
     }
 }
 
@@ -33,7 +31,7 @@ pub fn event(m: Machine, e: Event, out: &mut [u8], at: usize) -> Answered
 pub fn ledger(m: Machine, out: &mut [u8], at: usize) -> usize
     ensures { λ r. ⌜ (now (out .exit), r) ≡ (now (out .entry), at) ▹ outcomes.tally (tallied m) ⌝ }
 {
-    write_tally(machine_conversion::tally(m), out, at)
+    bench_outcome::write_tally(machine_conversion::tally(m), out, at)
 }
 
 // Gives the fresh machine as after so many conversions, and writes that it is done.
@@ -44,27 +42,6 @@ pub fn fresh(n: u32, out: &mut [u8], at: usize) -> Answered
         machine: machine_start::fresh_after(n),
         at: bench_page::write_decimal(paper::DONE as u64, out, at),
     }
-}
-
-// Writes the counts and what stands, by name.
-fn write_tally(tally: Tally, out: &mut [u8], at: usize) -> usize
-    ensures { λ r. ⌜ (now (out .exit), r) ≡ (now (out .entry), at) ▹ outcomes.tally tally ⌝ }
-{
-    bench_row::fill(
-        b"begun=# delivered=# overwritten=# abandoned=# standing=# running=# waiting=# shown=#",
-        &[
-            tally.ledger.begun as u64,
-            tally.ledger.delivered as u64,
-            tally.ledger.overwritten as u64,
-            tally.ledger.abandoned as u64,
-            tally.ledger.standing as u64,
-            tally.running as u64,
-            tally.waiting as u64,
-            tally.unread as u64,
-        ],
-        out,
-        at,
-    )
 }
 
 // What an outcome says beside the machine.
@@ -82,5 +59,21 @@ fn said_by(outcome: Outcome) -> Said
         humidity: outcome.codes.humidity,
         delivered: outcome.delivered,
         bytes,
+    }
+}
+
+// The shape of an event's answer.
+fn shape_of(e: Event) -> Shape
+    ensures { λ r. ⌜ r ≡ outcomes.shape e ⌝ }
+{
+    match e {
+        Event::Power => Shape::Number,
+        Event::Copied => Shape::Number,
+        Event::Write(_, _) => Shape::Number,
+        Event::Finish(_, _, _) => Shape::Number,
+        Event::Wake => Shape::Number,
+        Event::Open(_) => Shape::Number,
+        Event::Byte => Shape::Byte,
+        Event::Close(length) => Shape::Close(length),
     }
 }

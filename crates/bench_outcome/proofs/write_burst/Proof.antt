@@ -2,10 +2,10 @@
 use borrow.Author.Needs.{needs}
 use mathlib.Core.Path.{refl}
 use Rattle.bench_page.proofs.Laws.{joined}
-use Rattle.bench_machine.specs.Outcomes.{burst}
-use Rattle.bench_machine.proofs.Bits.{flag}
-use Rattle.bench_machine.proofs.wording.write_burst.Statement.{statement}
-use Rattle.bench_machine.proofs.wording.write_burst.Tie as tie
+use Rattle.bench_outcome.specs.Outcomes.{burst}
+use Rattle.bench_outcome.proofs.Bits.{flag}
+use Rattle.bench_outcome.proofs.write_burst.Statement.{statement}
+use Rattle.bench_outcome.proofs.write_burst.Tie as tie
 
 returns : tie.Need-returns
 unfolding burst

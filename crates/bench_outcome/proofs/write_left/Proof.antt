@@ -1,7 +1,7 @@
 -- The test of the definition.
 use borrow.Author.Needs.{needs}
-use Rattle.bench_machine.proofs.wording.write_left.Statement.{statement}
-use Rattle.bench_machine.proofs.wording.write_left.Tie as tie
+use Rattle.bench_outcome.proofs.write_left.Statement.{statement}
+use Rattle.bench_outcome.proofs.write_left.Tie as tie
 
 returns : tie.Need-returns
 returns c = rw (c .before .before .before .before .before .before .if1 .taken, c .before .before .write-buffer .ensures)

@@ -1,7 +1,7 @@
 -- The cases of the definition.
 use borrow.Author.Needs.{needs}
-use Rattle.bench_machine.proofs.wording.shape_of.Statement.{statement}
-use Rattle.bench_machine.proofs.wording.shape_of.Tie as tie
+use Rattle.bench_machine.proofs.shape_of.Statement.{statement}
+use Rattle.bench_machine.proofs.shape_of.Tie as tie
 
 returns-8 : tie.Need-returns-8
 returns-8 c = rw (c .before .e .given .1)

@@ -1,10 +1,10 @@
 -- The form with its numbers.
 use borrow.Author.Needs.{needs}
 use mathlib.Core.Path.{refl}
-use Rattle.bench_machine.specs.Outcomes.{tally}
-use Rattle.bench_machine.proofs.Bits.{flag}
-use Rattle.bench_machine.proofs.write_tally.Statement.{statement}
-use Rattle.bench_machine.proofs.write_tally.Tie as tie
+use Rattle.bench_outcome.specs.Outcomes.{tally}
+use Rattle.bench_outcome.proofs.Bits.{flag}
+use Rattle.bench_outcome.proofs.write_tally.Statement.{statement}
+use Rattle.bench_outcome.proofs.write_tally.Tie as tie
 
 returns : tie.Need-returns
 unfolding tally

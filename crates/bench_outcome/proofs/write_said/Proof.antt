@@ -1,7 +1,7 @@
 -- The cases of the definition.
 use borrow.Author.Needs.{needs}
-use Rattle.bench_machine.proofs.wording.write_said.Statement.{statement}
-use Rattle.bench_machine.proofs.wording.write_said.Tie as tie
+use Rattle.bench_outcome.proofs.write_said.Statement.{statement}
+use Rattle.bench_outcome.proofs.write_said.Tie as tie
 
 returns : tie.Need-returns
 returns c = rw (c .before .before .before .before .before .enum-told .given .1, c .before .before .write-decimal .ensures)

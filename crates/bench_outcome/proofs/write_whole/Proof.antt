@@ -1,8 +1,8 @@
 -- The test of the definition.
 use borrow.Author.Needs.{needs}
 use mathlib.Core.Path.{refl}
-use Rattle.bench_machine.proofs.wording.write_whole.Statement.{statement}
-use Rattle.bench_machine.proofs.wording.write_whole.Tie as tie
+use Rattle.bench_outcome.proofs.write_whole.Statement.{statement}
+use Rattle.bench_outcome.proofs.write_whole.Tie as tie
 
 returns : tie.Need-returns
 returns c = rw (c .before .before .before .before .before .if1 .taken, c .before .before .write-text .ensures)

@@ -3,8 +3,8 @@ ghost use mathlib.Core.Path.{_≡_};
 ghost use Rattle.bench_page.specs.Page.{_▹_};
 ghost use Rattle.bench_lent.specs.Lent.{lentOf};
 ghost use Rattle.bench_row.specs.Row.{buffer};
-ghost use Rattle.bench_machine.specs.Outcomes as outcomes;
-use machine::Event;
+ghost use Rattle.bench_outcome.specs.Outcomes as text;
+use machine::Tally;
 
 // What an outcome says beside the machine.
 pub struct Said {
@@ -26,25 +26,9 @@ pub enum Shape {
     Close(usize),
 }
 
-// The shape of an event's answer.
-pub fn shape_of(e: Event) -> Shape
-    ensures { λ r. ⌜ r ≡ outcomes.shape e ⌝ }
-{
-    match e {
-        Event::Power => Shape::Number,
-        Event::Copied => Shape::Number,
-        Event::Write(_, _) => Shape::Number,
-        Event::Finish(_, _, _) => Shape::Number,
-        Event::Wake => Shape::Number,
-        Event::Open(_) => Shape::Number,
-        Event::Byte => Shape::Byte,
-        Event::Close(length) => Shape::Close(length),
-    }
-}
-
 // Writes what was said, in a shape.
 pub fn write_said(said: Said, shape: Shape, out: &mut [u8], at: usize) -> usize
-    ensures { λ r. ⌜ (now (out .exit), r) ≡ (now (out .entry), at) ▹ outcomes.text said shape ⌝ }
+    ensures { λ r. ⌜ (now (out .exit), r) ≡ (now (out .entry), at) ▹ text.text said shape ⌝ }
 {
     match shape {
         Shape::Number => bench_page::write_decimal(said.answer as u64, out, at),
@@ -55,7 +39,7 @@ pub fn write_said(said: Said, shape: Shape, out: &mut [u8], at: usize) -> usize
 
 // Writes a number, and where it is done the register's value.
 fn write_value(answer: u8, value: u8, out: &mut [u8], at: usize) -> usize
-    ensures { λ r. ⌜ (now (out .exit), r) ≡ (now (out .entry), at) ▹ outcomes.given answer value ⌝ }
+    ensures { λ r. ⌜ (now (out .exit), r) ≡ (now (out .entry), at) ▹ text.given answer value ⌝ }
 {
     if answer == paper::DONE {
         return bench_row::fill(b"# @", &[answer as u64, value as u64], out, at);
@@ -65,7 +49,7 @@ fn write_value(answer: u8, value: u8, out: &mut [u8], at: usize) -> usize
 
 // Writes what a close says, and the lent buffer after it.
 fn write_close(said: Said, length: usize, out: &mut [u8], at: usize) -> usize
-    ensures { λ r. ⌜ (now (out .exit), r) ≡ (now (out .entry), at) ▹ outcomes.closed said length ⌝ }
+    ensures { λ r. ⌜ (now (out .exit), r) ≡ (now (out .entry), at) ▹ text.closed said length ⌝ }
 {
     let next = write_closing(said, out, at);
     write_left(said, length, out, next)
@@ -73,7 +57,7 @@ fn write_close(said: Said, length: usize, out: &mut [u8], at: usize) -> usize
 
 // Writes a close's number, and where it is done what the burst showed.
 fn write_closing(said: Said, out: &mut [u8], at: usize) -> usize
-    ensures { λ r. ⌜ (now (out .exit), r) ≡ (now (out .entry), at) ▹ outcomes.closing said ⌝ }
+    ensures { λ r. ⌜ (now (out .exit), r) ≡ (now (out .entry), at) ▹ text.closing said ⌝ }
 {
     if said.answer == paper::DONE {
         return write_burst(said, out, at);
@@ -83,7 +67,7 @@ fn write_closing(said: Said, out: &mut [u8], at: usize) -> usize
 
 // Writes what a burst showed.
 fn write_burst(said: Said, out: &mut [u8], at: usize) -> usize
-    ensures { λ r. ⌜ (now (out .exit), r) ≡ (now (out .entry), at) ▹ outcomes.burst said ⌝ }
+    ensures { λ r. ⌜ (now (out .exit), r) ≡ (now (out .entry), at) ▹ text.burst said ⌝ }
 {
     let next = write_whole(said.whole, out, at);
     bench_row::fill(
@@ -102,7 +86,7 @@ fn write_burst(said: Said, out: &mut [u8], at: usize) -> usize
 
 // Writes whether a burst was whole.
 fn write_whole(whole: bool, out: &mut [u8], at: usize) -> usize
-    ensures { λ r. ⌜ (now (out .exit), r) ≡ (now (out .entry), at) ▹ outcomes.whole whole ⌝ }
+    ensures { λ r. ⌜ (now (out .exit), r) ≡ (now (out .entry), at) ▹ text.whole whole ⌝ }
 {
     if whole {
         bench_page::write_text(b"0 whole", out, at)
@@ -113,7 +97,7 @@ fn write_whole(whole: bool, out: &mut [u8], at: usize) -> usize
 
 // Writes the lent buffer: the eight bytes of a whole close, and otherwise as it was lent.
 fn write_left(said: Said, length: usize, out: &mut [u8], at: usize) -> usize
-    ensures { λ r. ⌜ (now (out .exit), r) ≡ (now (out .entry), at) ▹ buffer (outcomes.left said length) ⌝ }
+    ensures { λ r. ⌜ (now (out .exit), r) ≡ (now (out .entry), at) ▹ buffer (text.left said length) ⌝ }
 {
     if said.whole {
         let bytes = said.bytes;
@@ -129,4 +113,25 @@ fn write_lent(length: usize, out: &mut [u8], at: usize) -> usize
     let lent = bench_lent::filled();
     let n = bench_lent::within(length);
     bench_row::write_buffer(&lent[..n], out, at)
+}
+
+// Writes the counts and what stands, by name.
+pub fn write_tally(tally: Tally, out: &mut [u8], at: usize) -> usize
+    ensures { λ r. ⌜ (now (out .exit), r) ≡ (now (out .entry), at) ▹ text.tally tally ⌝ }
+{
+    bench_row::fill(
+        b"begun=# delivered=# overwritten=# abandoned=# standing=# running=# waiting=# shown=#",
+        &[
+            tally.ledger.begun as u64,
+            tally.ledger.delivered as u64,
+            tally.ledger.overwritten as u64,
+            tally.ledger.abandoned as u64,
+            tally.ledger.standing as u64,
+            tally.running as u64,
+            tally.waiting as u64,
+            tally.unread as u64,
+        ],
+        out,
+        at,
+    )
 }

@@ -2,8 +2,8 @@
 use borrow.Author.Needs.{needs}
 use Rattle.bench_lent.specs.Lent.{lentOf}
 use Rattle.bench_lent.proofs.Front.{within-whole, lent-length}
-use Rattle.bench_machine.proofs.wording.write_lent.Statement.{statement}
-use Rattle.bench_machine.proofs.wording.write_lent.Tie as tie
+use Rattle.bench_outcome.proofs.write_lent.Statement.{statement}
+use Rattle.bench_outcome.proofs.write_lent.Tie as tie
 
 returns : tie.Need-returns
 unfolding lentOf

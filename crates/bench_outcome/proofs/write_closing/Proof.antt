@@ -1,8 +1,8 @@
 -- The test of the definition.
 use borrow.Author.Needs.{needs}
 use borrow.Author.Tests.{eq-eqb, ne-eqb}
-use Rattle.bench_machine.proofs.wording.write_closing.Statement.{statement}
-use Rattle.bench_machine.proofs.wording.write_closing.Tie as tie
+use Rattle.bench_outcome.proofs.write_closing.Statement.{statement}
+use Rattle.bench_outcome.proofs.write_closing.Tie as tie
 
 returns : tie.Need-returns
 returns c = rw (eq-eqb _ _ (c .before .before .before .before .if1 .taken), c .before .before .write-burst .ensures)

@@ -1,9 +1,9 @@
 -- What the close says, and then the buffer.
 use borrow.Author.Needs.{needs}
 use Rattle.bench_page.proofs.Laws.{joined}
-use Rattle.bench_machine.specs.Outcomes.{closed}
-use Rattle.bench_machine.proofs.wording.write_close.Statement.{statement}
-use Rattle.bench_machine.proofs.wording.write_close.Tie as tie
+use Rattle.bench_outcome.specs.Outcomes.{closed}
+use Rattle.bench_outcome.proofs.write_close.Statement.{statement}
+use Rattle.bench_outcome.proofs.write_close.Tie as tie
 
 returns : tie.Need-returns
 unfolding closed

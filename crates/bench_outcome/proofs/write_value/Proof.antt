@@ -2,8 +2,8 @@
 use borrow.Author.Needs.{needs}
 use mathlib.Core.Path.{refl}
 use borrow.Author.Tests.{eq-eqb, ne-eqb}
-use Rattle.bench_machine.proofs.wording.write_value.Statement.{statement}
-use Rattle.bench_machine.proofs.wording.write_value.Tie as tie
+use Rattle.bench_outcome.proofs.write_value.Statement.{statement}
+use Rattle.bench_outcome.proofs.write_value.Tie as tie
 
 returns : tie.Need-returns
 returns c = rw (eq-eqb _ _ (c .before .before .before .before .before .before .if1 .taken), c .before .before .fill .ensures)

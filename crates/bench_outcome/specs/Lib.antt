@@ -1,0 +1,2 @@
+-- Outcomes as text.
+pub mod Outcomes
