@@ -43,12 +43,14 @@ over (r ∷ rs) line words named lent e = absurd (let z : _≡_ {A = ℕ} 0 1 = 
 
 -- ---- the row at a place of the table's text, which is the command's of a number
 
-module _ (table : List ℕ) (at : ℕ) (h : at < length table) (end : ℕ) (e : end ≡ at + length (words.row (drop at table)))
+module _
+    (table : List ℕ) (at : ℕ) (h : at < length table) (end : ℕ) (e : end ≡ at + length (words.row (drop at table)))
     (number : ℕ) (f : words.rows (drop at table) ≡ texts (drop number commands)) where
   as-texts : (p : ℕ) → p ≡ words.past table end → texts (drop number commands) ≡ words.row (drop at table) ∷ words.rows (drop p table)
   as-texts p g = sym f ∙ next table at h end e p g
 
-  pub asks : (line : List ℕ) (count : ℕ) (named : Bool) (lent : List ℕ) → true ≡ isOf (take (end - at) (drop at table)) line count
+  pub asks :
+      (line : List ℕ) (count : ℕ) (named : Bool) (lent : List ℕ) → true ≡ isOf (take (end - at) (drop at table)) line count
       → askedBy (makeAt number) (take (end - at) (drop at table)) line lent ≡ tried (drop number commands) line count named lent
   unfolding makeAt
   asks line count named lent g =
@@ -59,8 +61,10 @@ module _ (table : List ℕ) (at : ℕ) (h : at < length table) (end : ℕ) (e : 
     pub texts-on : words.rows (drop p table) ≡ texts (drop (number + 1) commands)
     texts-on = sym (rest-texts (drop number commands) _ _ (as-texts p g)) ∙ ap texts (drop-drop 1 number commands)
 
-    pub goes-on : (line : List ℕ) (count : ℕ) (named : Bool) (lent : List ℕ) → false ≡ isOf (take (end - at) (drop at table)) line count
-        → tried (drop number commands) line count named lent ≡ tried (drop (number + 1) commands) line count (named || fits (take (end - at) (drop at table)) line) lent
+    pub goes-on :
+        (line : List ℕ) (count : ℕ) (named : Bool) (lent : List ℕ) → false ≡ isOf (take (end - at) (drop at table)) line count
+        → tried (drop number commands) line count named lent
+        ≡ tried (drop (number + 1) commands) line count (named || fits (take (end - at) (drop at table)) line) lent
     goes-on line count named lent k =
         rw (part table at h end e, ← drop-drop 1 number commands)
         (onward _ _ line count named lent (drop number commands) (as-texts p g) (rw (part table at h end e) at k))

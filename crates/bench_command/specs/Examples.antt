@@ -16,7 +16,7 @@ use Rattle.bench_command.specs.Table as table
 use Rattle.bench_command.specs.Commands.{asked}
 
 -- four bytes are lent, and nothing is written after the last byte read
-pub record Commands : Type 0 where
+pub record Lines : Type 0 where
   pub cal : asked (letters "cal 0102 03") (9 ∷ 9 ∷ 9 ∷ 9 ∷ []) ≡ (Command (the.Cal 2 1), 1 ∷ 2 ∷ 3 ∷ 9 ∷ [])
   pub comp : asked (letters "comp 01 - 02 1 7 256") (9 ∷ 9 ∷ 9 ∷ 9 ∷ []) ≡ (Command (the.Comp 1 0 1 1 7 255), 1 ∷ 2 ∷ 9 ∷ 9 ∷ [])
   pub wait : asked (letters "wait max 5 4 3") [] ≡ (Command (the.WaitMaximum 5 4 3), [])
@@ -34,12 +34,27 @@ pub record Commands : Type 0 where
   pub finish : asked (letters "finish 519888 415148 0") [] ≡ (Command (the.Event (events.Finish 519888 415148 0)), [])
   pub close : asked (letters "close 8") [] ≡ (Command (the.Event (events.Close 8)), [])
   pub ledger : asked (letters "ledger") [] ≡ (Command the.Ledger, [])
+  -- reasons, in their order
+  pub empty : asked (letters "") [] ≡ (Nothing, [])
+  pub spaces-alone : asked (letters "  ") [] ≡ (Refused UnknownWord, [])
+  pub longer-word : asked (letters "freshen") [] ≡ (Refused UnknownWord, [])
+  pub shorter-word : asked (letters "fres 7") [] ≡ (Refused UnknownWord, [])
+  pub second-missing : asked (letters "wait") [] ≡ (Refused WrongNumberOfWords, [])
+  pub second-unknown : asked (letters "wait  max 5 5 5") [] ≡ (Refused UnknownWord, [])
+  pub trailing-space : asked (letters "copied ") [] ≡ (Refused WrongNumberOfWords, [])
+  pub one-too-many : asked (letters "fresh 1 2") [] ≡ (Refused WrongNumberOfWords, [])
+  pub words-before-values : asked (letters "write G4") [] ≡ (Refused WrongNumberOfWords, [])
+  pub no-characters : asked (letters "poll  08") [] ≡ (Refused NotANumber, [])
+  -- the first of several decides, and what was read before it stays laid
+  pub first-decides : asked (letters "i2c write 7G 080 257") [] ≡ (Refused NotANumber, [])
+  pub odd-digits : asked (letters "spi write F427F 257") (9 ∷ 9 ∷ 9 ∷ []) ≡ (Refused OddHex, 0xF4 ∷ 0x27 ∷ 9 ∷ [])
+  pub long-buffer : asked (letters "spi write F427 257") (9 ∷ 9 ∷ 9 ∷ []) ≡ (Refused TooLong, 0xF4 ∷ 0x27 ∷ 9 ∷ [])
 
-pub commands-read : Commands
-unfolding asked table.tried table.commands table.isOf table.fits table.askedBy words.count arguments.isArgument arguments.start arguments.stepped arguments.walked word
-    reading.argument reading.number reading.octet reading.pair reading.secondDigit reading.decimal reading.readOn reading.bytes reading.wordLaid reading.isDash
-    reading.pairsLaid reading.digitValue reading.letterValue
-commands-read =
+pub lines-read : Lines
+unfolding asked table.tried table.commands table.isOf table.fits table.askedBy words.count arguments.isArgument arguments.start arguments.stepped arguments.walked
+    word reading.argument reading.number reading.octet reading.pair reading.secondDigit
+    reading.decimal reading.readOn reading.bytes reading.wordLaid reading.isDash reading.pairsLaid reading.digitValue reading.letterValue
+lines-read =
     record {
       cal = refl;
       comp = refl;
@@ -58,30 +73,6 @@ commands-read =
       finish = refl;
       close = refl;
       ledger = refl;
-    }
-
-pub record Refusals : Type 0 where
-  pub empty : asked (letters "") [] ≡ (Nothing, [])
-  pub spaces-alone : asked (letters "  ") [] ≡ (Refused UnknownWord, [])
-  pub longer-word : asked (letters "freshen") [] ≡ (Refused UnknownWord, [])
-  pub shorter-word : asked (letters "fres 7") [] ≡ (Refused UnknownWord, [])
-  pub second-missing : asked (letters "wait") [] ≡ (Refused WrongNumberOfWords, [])
-  pub second-unknown : asked (letters "wait  max 5 5 5") [] ≡ (Refused UnknownWord, [])
-  pub trailing-space : asked (letters "copied ") [] ≡ (Refused WrongNumberOfWords, [])
-  pub one-too-many : asked (letters "fresh 1 2") [] ≡ (Refused WrongNumberOfWords, [])
-  pub words-before-values : asked (letters "write G4") [] ≡ (Refused WrongNumberOfWords, [])
-  pub no-characters : asked (letters "poll  08") [] ≡ (Refused NotANumber, [])
-  -- the first of several decides, and what was read before it stays laid
-  pub first-decides : asked (letters "i2c write 7G 080 257") [] ≡ (Refused NotANumber, [])
-  pub odd-digits : asked (letters "spi write F427F 257") (9 ∷ 9 ∷ 9 ∷ []) ≡ (Refused OddHex, 0xF4 ∷ 0x27 ∷ 9 ∷ [])
-  pub long-buffer : asked (letters "spi write F427 257") (9 ∷ 9 ∷ 9 ∷ []) ≡ (Refused TooLong, 0xF4 ∷ 0x27 ∷ 9 ∷ [])
-
-pub refusals-read : Refusals
-unfolding asked table.tried table.commands table.isOf table.fits table.askedBy words.count arguments.isArgument arguments.start arguments.stepped arguments.walked word
-    reading.argument reading.number reading.octet reading.pair reading.secondDigit reading.decimal reading.readOn reading.bytes reading.wordLaid reading.isDash
-    reading.pairsLaid reading.digitValue reading.letterValue
-refusals-read =
-    record {
       empty = refl;
       spaces-alone = refl;
       longer-word = refl;

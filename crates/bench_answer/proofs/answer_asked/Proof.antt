@@ -10,11 +10,9 @@ returns-2 : tie.Need-returns-2
 returns-2 c = rw (c .before .before .before .before .before .before .asked .given .1, c .stay2 .ensures .0, c .stay2 .ensures .1, c .before .before .before .refuse .ensures)
 
 returns-3 : tie.Need-returns-3
-returns-3 c = rw (
-  c .before .before .before .before .before .before .before .before .before .asked2 .given .1,
-  c .before .before .end .ensures,
-  ← c .before .before .before .before .before .before .run .ensures,
-)
+returns-3 c =
+    let d = c .before .before .before .before .before .before in
+    rw (d .before .before .before .asked2 .given .1, c .before .before .end .ensures, ← d .run .ensures)
 
 pub answer-asked-spec : {M : Type 1} → statement M
 answer-asked-spec =

@@ -4,12 +4,9 @@ use Rattle.bench_answer.proofs.cal.Statement.{statement}
 use Rattle.bench_answer.proofs.cal.Tie as tie
 
 returns : tie.Need-returns
-returns c = rw (
-  c .before .before .cal .ensures,
-  c .before .before .before .before .front2 .ensures,
-  c .before .before .before .before .before .rest .ensures,
-  c .before .before .before .before .before .before .front .ensures,
-)
+returns c =
+    let d = c .before .before .before .before in
+    rw (c .before .before .cal .ensures, d .front2 .ensures, d .before .rest .ensures, d .before .before .front .ensures)
 
 pub cal-spec : {M : Type 1} → statement M
 cal-spec =

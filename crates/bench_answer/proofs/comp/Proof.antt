@@ -4,14 +4,10 @@ use Rattle.bench_answer.proofs.comp.Statement.{statement}
 use Rattle.bench_answer.proofs.comp.Tie as tie
 
 returns : tie.Need-returns
-returns c = rw (
-  c .before .before .comp .ensures,
-  c .before .before .before .before .front3 .ensures,
-  c .before .before .before .before .before .rest2 .ensures,
-  c .before .before .before .before .before .before .front2 .ensures,
-  c .before .before .before .before .before .before .before .front .ensures,
-  c .before .before .before .before .before .before .before .before .rest .ensures,
-)
+returns c =
+    let d = c .before .before .before .before in
+    let e = d .before .before in
+    rw (c .before .before .comp .ensures, d .front3 .ensures, d .before .rest2 .ensures, e .front2 .ensures, e .before .front .ensures, e .before .before .rest .ensures)
 
 pub comp-spec : {M : Type 1} → statement M
 comp-spec =

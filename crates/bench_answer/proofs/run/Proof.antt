@@ -25,31 +25,19 @@ returns-7 : tie.Need-returns-7
 returns-7 c = rw (c .before .before .before .before .before .before .command6 .given .1, c .stay5 .ensures .0, c .stay5 .ensures .1, c .before .before .before .wait-typical .ensures)
 
 returns-8 : tie.Need-returns-8
-returns-8 c = rw (
-  c .before .before .before .before .before .before .before .command7 .given .1,
-  c .stay6 .ensures .0,
-  c .stay6 .ensures .1,
-  c .before .before .before .poll .ensures,
-  c .before .before .before .before .before .front .ensures,
-)
+returns-8 c =
+    let d = c .before .before .before in
+    rw (d .before .before .before .before .command7 .given .1, c .stay6 .ensures .0, c .stay6 .ensures .1, d .poll .ensures, d .before .before .front .ensures)
 
 returns-9 : tie.Need-returns-9
-returns-9 c = rw (
-  c .before .before .before .before .before .before .before .command8 .given .1,
-  c .stay7 .ensures .0,
-  c .stay7 .ensures .1,
-  c .before .before .before .write .ensures,
-  c .before .before .before .before .before .front2 .ensures,
-)
+returns-9 c =
+    let d = c .before .before .before in
+    rw (d .before .before .before .before .command8 .given .1, c .stay7 .ensures .0, c .stay7 .ensures .1, d .write .ensures, d .before .before .front2 .ensures)
 
 returns-10 : tie.Need-returns-10
-returns-10 c = rw (
-  c .before .before .before .before .before .before .before .command9 .given .1,
-  c .stay8 .ensures .0,
-  c .stay8 .ensures .1,
-  c .before .before .before .decode .ensures,
-  c .before .before .before .before .before .front3 .ensures,
-)
+returns-10 c =
+    let d = c .before .before .before in
+    rw (d .before .before .before .before .command9 .given .1, c .stay8 .ensures .0, c .stay8 .ensures .1, d .decode .ensures, d .before .before .front3 .ensures)
 
 returns-11 : tie.Need-returns-11
 returns-11 c = rw (c .before .before .before .before .before .before .command10 .given .1, c .stay9 .ensures .0, c .stay9 .ensures .1, c .before .before .before .read .ensures)

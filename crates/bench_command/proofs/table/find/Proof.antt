@@ -37,10 +37,10 @@ returns c =
     let r = d .before .before .before in
     let b = r .before in
     let table = b .before .before .before .before .before .before .args .table .now in
+    let l = b .before .loop in
     c .before .before .ask .ensures
-    ∙ asks table (b .before .loop .at) (b .loop-test .taken) (r .row-end .result) (r .row-end .ensures) (b .before .loop .number) (b .before .loop .inv .2) _ _ _ _
-    (sym (d .if1 .taken) ∙ d .before .is-of .ensures)
-    ∙ b .before .loop .inv .3
+    ∙ asks table (l .at) (b .loop-test .taken) (r .row-end .result) (r .row-end .ensures) (l .number) (l .inv .2) _ _ _ _ (sym (d .if1 .taken) ∙ d .before .is-of .ensures)
+    ∙ l .inv .3
 
 loop-less : tie.Need-loop-less Inv-loop μ-loop
 loop-less c =
@@ -55,16 +55,17 @@ loop-again c =
     let r = d .before .before .before in
     let b = r .before in
     let table = b .before .before .before .before .before .before .args .table .now in
-    let at = b .before .loop .at in
+    let l = b .before .loop in
+    let at = l .at in
     let h = b .loop-test .taken in
+    let no = sym (d .if1 .left) ∙ d .before .is-of .ensures in
     let p = c .past .result in (
       omega (arith, later table at h (r .row-end .result) (r .row-end .ensures) p (c .past .ensures)),
-      b .before .loop .inv .1,
-      texts-on table at h (r .row-end .result) (r .row-end .ensures) (b .before .loop .number) (b .before .loop .inv .2) p (c .past .ensures),
+      l .inv .1,
+      texts-on table at h (r .row-end .result) (r .row-end .ensures) (l .number) (l .inv .2) p (c .past .ensures),
       rw (c .before .fits2 .ensures)
-          (sym (goes-on table at h (r .row-end .result) (r .row-end .ensures) (b .before .loop .number) (b .before .loop .inv .2) p (c .past .ensures) _ _ _ _
-          (sym (d .if1 .left) ∙ d .before .is-of .ensures))
-          ∙ b .before .loop .inv .3),
+          (sym (goes-on table at h (r .row-end .result) (r .row-end .ensures) (l .number) (l .inv .2) p (c .past .ensures) _ _ _ _ no)
+          ∙ l .inv .3),
     )
 
 returns-2 : tie.Need-returns-2 Inv-loop μ-loop

@@ -23,7 +23,8 @@ unfolding pairsLaid
 stops start byte [] i lent at reason e = rw e
 stops start byte (low ∷ rest) i lent at reason e = rw e
 
-refused : (start : ℕ) (line : List ℕ) (i : ℕ) (ends : Bool) → Ends line i ends → ends ≡ false → (lent : List ℕ) (at : ℕ) (reason : Reason)
+refused :
+    (start : ℕ) (line : List ℕ) (i : ℕ) (ends : Bool) → Ends line i ends → ends ≡ false → (lent : List ℕ) (at : ℕ) (reason : Reason)
     → pair (word (drop i line)) ≡ Refused reason → (the.Refused reason, lent) ≡ pairsLaid start (word (drop i line)) i lent at
 refused start line i ends w f lent at reason e = rw (w .begins f) (stops start _ _ i lent at reason (rw (w .begins f) at e))
 
@@ -40,7 +41,8 @@ module _ (start : ℕ) (line : List ℕ) (i : ℕ) (ends : Bool) (v : Ends line 
       let w = two line i byte e .begins in
       rw (w, rw w at e, lt-ltb at (length lent) h)
 
-at-end : (start : ℕ) (line : List ℕ) (i : ℕ) (ends : Bool) → Ends line i ends → ends ≡ true → (lent : List ℕ) (at : ℕ)
+at-end :
+    (start : ℕ) (line : List ℕ) (i : ℕ) (ends : Bool) → Ends line i ends → ends ≡ true → (lent : List ℕ) (at : ℕ)
     → (the.Read (at - start) i at, lent) ≡ pairsLaid start (word (drop i line)) i lent at
 unfolding pairsLaid
 at-end start line i ends w f lent at = rw (w .none f)

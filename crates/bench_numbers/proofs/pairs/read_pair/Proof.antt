@@ -45,14 +45,8 @@ returns-4 c =
     let e = c .before .before .before in
     let d = e .before .before in
     let b = d .before .before .before in
-    rw (
-      b .before .ends .ensures .begins (b .if1 .left),
-      ← d .before .value .ensures,
-      le-ltb 15 _ (d .if2 .left),
-      e .before .ends2 .ensures .begins (e .if3 .left),
-      ← c .before .value2 .ensures,
-      lt-ltb 15 _ (c .if4 .taken),
-    )
+    rw (b .before .ends .ensures .begins (b .if1 .left), ← d .before .value .ensures, le-ltb 15 _ (d .if2 .left))
+    (rw (e .before .ends2 .ensures .begins (e .if3 .left), ← c .before .value2 .ensures, lt-ltb 15 _ (c .if4 .taken)))
 
 returns-5 : tie.Need-returns-5
 unfolding pair secondDigit
@@ -60,14 +54,8 @@ returns-5 c =
     let e = c .before .before .before in
     let d = e .before .before in
     let b = d .before .before .before in
-    rw (
-      b .before .ends .ensures .begins (b .if1 .left),
-      ← d .before .value .ensures,
-      le-ltb 15 _ (d .if2 .left),
-      e .before .ends2 .ensures .begins (e .if3 .left),
-      ← c .before .value2 .ensures,
-      le-ltb 15 _ (c .if4 .left),
-    )
+    rw (b .before .ends .ensures .begins (b .if1 .left), ← d .before .value .ensures, le-ltb 15 _ (d .if2 .left))
+    (rw (e .before .ends2 .ensures .begins (e .if3 .left), ← c .before .value2 .ensures, le-ltb 15 _ (c .if4 .left)))
 
 pub read-pair-spec : {M : Type 1} → statement M
 read-pair-spec =
