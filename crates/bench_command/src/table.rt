@@ -12,7 +12,7 @@ use bench_numbers::Reason;
 
 // What a line asks by the table's text, whose rows are those of the commands.
 // The first row that the line is of decides.
-pub fn find(table: &[u8], line: &[u8], lent: &mut [u8]) -> Asked
+pub(crate) fn find(table: &[u8], line: &[u8], lent: &mut [u8]) -> Asked
     requires { ⌜ words.rows (now table) ≡ known.texts known.commands ⌝ }
     ensures { λ r. ⌜ (r, now (lent .exit)) ≡ known.tried known.commands (now (line .entry)) (words.count (now (line .entry))) false (now (lent .entry)) ⌝ }
 {

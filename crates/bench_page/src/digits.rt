@@ -8,7 +8,7 @@ ghost use Rattle.bench_page.specs.Digits as spelt;
 pub const MINUS: u8 = b'-';
 
 // The upper-case hex digit of a number below 16.
-pub fn hex(n: u8) -> u8
+pub(crate) fn hex(n: u8) -> u8
     requires { ⌜ n < 16 ⌝ }
     ensures { λ r. ⌜ r ≡ spelt.hexDigit n ⌝ }
 {
@@ -23,7 +23,7 @@ pub fn widen(z: i32) -> i64
 }
 
 // How far from zero a signed number of 32 bits lies.
-pub fn magnitude(z: i64) -> u64
+pub(crate) fn magnitude(z: i64) -> u64
     requires { ⌜ mag z < 0x80000000 ⌝ }
     ensures { λ r. ⌜ r ≡ natAbs z ⌝ }
 {
