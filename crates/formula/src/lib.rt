@@ -1,9 +1,10 @@
-// What the maker's three formulas share: their answers, the numbers that they are given, their first step, and the guard of the
-// plain roads on the fine temperature.
+// What the maker's three formulas share: their answers, what their plain roads give, the numbers that they are given, their first step,
+// and the guard of the plain roads on the fine temperature.
 ghost use mathlib.Core.Path.{_≡_};
 ghost use lib.IntN.{pos};
 ghost use Rattle.steps.specs.Work.{run, given, num, _-_};
-ghost use Rattle.formula.specs.Plain.{isUsual};
+ghost use mathlib.Core.Bool.{true};
+ghost use Rattle.formula.specs.Plain.{isUsual, plainly, plainTemperature};
 use steps::Num;
 use steps::Signed;
 use steps::subtract;
@@ -23,6 +24,52 @@ pub enum TemperatureAnswer {
 pub enum ChannelAnswer {
     Known(u32),
     Missing(Missing),
+}
+
+// What a plain road gives of a pressure or a humidity: the value where the road is taken to its end, and else 0 and false.
+pub struct PlainChannel {
+    pub taken: bool,
+    pub value: u32,
+}
+
+// What the plain road of the temperature gives: both values where it is taken, and else 0 and false.
+pub struct PlainTemperature {
+    pub taken: bool,
+    pub value: i32,
+    pub fine: i32,
+}
+
+// What a plain road gives that ends in an answer.
+// It is taken where the answer is a value.
+pub fn take(answer: ChannelAnswer) -> PlainChannel
+    ensures { λ r. ⌜ r ≡ plainly true answer ⌝ }
+{
+    match answer {
+        ChannelAnswer::Known(value) => PlainChannel { taken: true, value },
+        ChannelAnswer::Missing(_) => PlainChannel {
+            taken: false,
+            value: 0,
+        },
+    }
+}
+
+// The same of a temperature.
+// It is taken where the answer is the two values.
+pub fn take_temperature(answer: TemperatureAnswer) -> PlainTemperature
+    ensures { λ r. ⌜ r ≡ plainTemperature true answer ⌝ }
+{
+    match answer {
+        TemperatureAnswer::Known { value, fine } => PlainTemperature {
+            taken: true,
+            value,
+            fine,
+        },
+        TemperatureAnswer::Missing(_) => PlainTemperature {
+            taken: false,
+            value: 0,
+            fine: 0,
+        },
+    }
 }
 
 // A count, or a word without a sign, as the number that a formula is given.
@@ -58,17 +105,6 @@ pub fn difference(width: Signed, fine: i32, start: u32) -> Num
     ensures { λ r. ⌜ r ≡ run width (given fine - num start) ⌝ }
 {
     subtract(width, signed32(fine), unsigned(start))
-}
-
-// The same answer, made anew of its parts.
-// A checked road leaves its answer in memory; made anew, it leaves the plain road's in the machine's registers.
-pub fn anew(a: ChannelAnswer) -> ChannelAnswer
-    ensures { λ r. ⌜ r ≡ a ⌝ }
-{
-    match a {
-        ChannelAnswer::Known(value) => ChannelAnswer::Known(value),
-        ChannelAnswer::Missing(missing) => ChannelAnswer::Missing(missing),
-    }
 }
 
 // Whether a fine temperature is one from -43 to 93 degrees.

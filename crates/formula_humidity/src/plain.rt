@@ -3,15 +3,14 @@ ghost use mathlib.Core.Path.{_≡_};
 ghost use Prim.Native.Nat.{_≤_};
 ghost use lib.IntN.{natAbs};
 ghost use Rattle.steps.specs.declared.Signed.the-variants.{Bits32};
-ghost use Rattle.formula.specs.Plain.{Gives};
-ghost use Rattle.formula_humidity.specs.Plain.{SmallWords, Plain, Small};
+ghost use Rattle.formula.specs.Plain.{Gives, plainly};
+ghost use Rattle.formula_humidity.specs.Plain.{SmallWords, Plain, Small, multiplies};
 ghost use Rattle.formula_humidity.specs.Humidity.{levelFactor, bendFactor, gainFactor, correctionLine, humidityOf};
-use super::checked;
 use super::guards;
 use super::lines;
 use calibration::HumidityWords;
-use formula::ChannelAnswer;
-use formula::anew;
+use formula::PlainChannel;
+use formula::take;
 
 // The product's first factor.
 fn level(words: HumidityWords, count: u32, v: i64) -> i64
@@ -53,15 +52,18 @@ fn correct(words: HumidityWords, v: i64) -> i64
 }
 
 // The humidity, where the fine temperature and the words are usual and the count has its sixteen bits.
-// A product that is not small takes the checked road.
-pub(crate) fn humidity(words: HumidityWords, fine: i32, count: u32) -> ChannelAnswer
+// The road ends where the product is not small.
+pub(crate) fn humidity(words: HumidityWords, fine: i32, count: u32) -> PlainChannel
     requires { ⌜ Plain words fine count ⌝ }
-    ensures { λ r. ⌜ r ≡ humidityOf words fine count ⌝ }
+    ensures { λ r. ⌜ r ≡ plainly (multiplies words fine count) (humidityOf words fine count) ⌝ }
 {
     let difference = fine as i64 - 76800;
     let product = level(words, count, difference) * gain(words, difference);
     if guards::is_small(product) {
-        return lines::last(correct(words, product));
+        return take(lines::last(correct(words, product)));
     }
-    anew(checked::humidity(words, fine, count))
+    PlainChannel {
+        taken: false,
+        value: 0,
+    }
 }

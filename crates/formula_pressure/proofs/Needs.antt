@@ -33,11 +33,13 @@ module _ (words : PressureWords) (fine : ℤ) (count : ℕ) where
       needs (pressureFormula words fine count)
       ≡ take 18 (pressureNeeds words fine count)
       ++ (zero-test ∷ (take 4 (drop 19 (pressureNeeds words fine count)) ++ (zero-test ∷ drop 23 (pressureNeeds words fine count))))
-  unfolding needs plain p.differenceLine p.offsetLines p.divisorLines p.quotientLines p.curveLine p.slopeLine p.lastLine p.refinedLines p.pressureLines pressureFormula pressureNeeds plainDivisor
+  unfolding needs plain p.differenceLine p.offsetLines p.scaleLines p.divisorLines p.quotientLines p.curveLine p.slopeLine p.lastLine p.refinedLines
+      p.pressureLines pressureFormula pressureNeeds plainDivisor
   needs-are = refl
 
   pressure-plain : plain (pressureFormula words fine count) ≡ plainPressure words fine count
-  unfolding plain p.differenceLine p.offsetLines p.divisorLines p.quotientLines p.curveLine p.slopeLine p.lastLine p.refinedLines p.pressureLines pressureFormula plainDivisor plainPressure
+  unfolding plain p.differenceLine p.offsetLines p.scaleLines p.divisorLines p.quotientLines p.curveLine p.slopeLine p.lastLine p.refinedLines
+      p.pressureLines pressureFormula plainDivisor plainPressure
   pressure-plain = refl
 
   answer-is : pressureOf words fine count ≡ answered (run Bits64 (pressureFormula words fine count))
@@ -59,5 +61,5 @@ first-decides = decides
 
 pub zero-test-first : ZeroTestFirst
 unfolding run onValue onValues verdict stepsAlone pressureNeeds pressureFormula pressureOf
-    p.differenceLine p.offsetLines p.divisorLines p.quotientLines p.curveLine p.slopeLine p.lastLine p.refinedLines p.pressureLines
+    p.differenceLine p.offsetLines p.scaleLines p.divisorLines p.quotientLines p.curveLine p.slopeLine p.lastLine p.refinedLines p.pressureLines
 zero-test-first = record { zero-decides = refl; step-fails-too = λ z. refl }

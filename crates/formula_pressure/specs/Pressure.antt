@@ -31,16 +31,18 @@ offsetLines words difference =
 
 -- var1 = ((var1 * var1 * P3) >> 8) + ((var1 * P2) << 12);
 -- var1 = (((1 << 47) + var1)) * P1 >> 33;
--- if (var1 == 0) return 0;  (here the number for a divisor zero in the place of the 0)
-unfoldable pub divisorLines : PressureWords → ℤ → Work
-divisorLines words difference =
+unfoldable pub scaleLines : PressureWords → ℤ → Work
+scaleLines words difference =
     let P1 = num (words .p1) in
     let P2 = given (words .p2) in
     let P3 = given (words .p3) in
     let var1 = given difference in
-    test isNonzero no.divisorZero
-    (share ((var1 * var1 * P3 >> 8) + (var1 * P2 << 12)) λ var1.
-    ((num 1 << 47) + given var1) * P1 >> 33)
+    share ((var1 * var1 * P3 >> 8) + (var1 * P2 << 12)) λ var1.
+    ((num 1 << 47) + given var1) * P1 >> 33
+
+-- if (var1 == 0) return 0;  (here the number for a divisor zero in the place of the 0)
+unfoldable pub divisorLines : PressureWords → ℤ → Work
+divisorLines words difference = test isNonzero no.divisorZero (scaleLines words difference)
 
 -- p = 1048576 - adc_P;
 -- p = (((p << 31) - var2) * 3125) / var1;

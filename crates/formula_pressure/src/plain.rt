@@ -1,19 +1,16 @@
 // The plain road of the pressure: the maker's lines with no check, where the fine temperature and P1 are usual.
 ghost use mathlib.Core.Path.{_≡_};
-ghost use mathlib.Core.Bool.{true};
 ghost use Prim.Native.Nat.{_≤_};
 ghost use lib.IntN.{natAbs};
 ghost use Rattle.steps.specs.declared.Signed.the-variants.{Bits64};
-ghost use Rattle.steps.specs.Step.{isNonzero};
-ghost use Rattle.formula.specs.Plain.{Gives};
-ghost use Rattle.formula_pressure.specs.Plain.{Plain, Dividing, dividendLine, divisionLine};
-ghost use Rattle.formula_pressure.specs.Pressure.{offsetLines, divisorLines, refinedLines, pressureOf};
-use super::checked;
+ghost use Rattle.formula.specs.Plain.{Gives, plainly};
+ghost use Rattle.formula_pressure.specs.Plain.{Plain, Dividing, dividendLine, divisionLine, divides};
+ghost use Rattle.formula_pressure.specs.Pressure.{offsetLines, scaleLines, refinedLines, pressureOf};
 use super::guards;
 use super::lines;
 use calibration::PressureWords;
-use formula::ChannelAnswer;
-use formula::anew;
+use formula::PlainChannel;
+use formula::take;
 
 // The offset that the dividend loses.
 fn offset(words: PressureWords, difference: i64) -> i64
@@ -29,7 +26,7 @@ fn offset(words: PressureWords, difference: i64) -> i64
 // The divisor, which may be zero yet.
 fn divisor(words: PressureWords, difference: i64) -> i64
     requires { ⌜ (natAbs difference ≤ 350000) × (words .p1 ≤ 45000) ⌝ }
-    ensures { λ r. ⌜ (isNonzero r ≡ true → Gives Bits64 1073741824 (divisorLines words difference) r) ⌝ }
+    ensures { λ r. ⌜ Gives Bits64 1073741824 (scaleLines words difference) r ⌝ }
 {
     let p1 = words.p1 as i64;
     let p2 = words.p2 as i64;
@@ -68,17 +65,20 @@ fn refine(words: PressureWords, p: i64) -> i64
 }
 
 // The pressure, where the fine temperature and P1 are usual and the count has its twenty bits.
-// A quotient that is not small takes the checked road.
-pub(crate) fn pressure(words: PressureWords, fine: i32, count: u32) -> ChannelAnswer
+// The road ends before a division whose quotient may not be small.
+pub(crate) fn pressure(words: PressureWords, fine: i32, count: u32) -> PlainChannel
     requires { ⌜ Plain (words .p1) fine count ⌝ }
-    ensures { λ r. ⌜ r ≡ pressureOf words fine count ⌝ }
+    ensures { λ r. ⌜ r ≡ plainly (divides words fine count) (pressureOf words fine count) ⌝ }
 {
     let difference = fine as i64 - 128000;
     let var2 = offset(words, difference);
     let var1 = divisor(words, difference);
     let above = dividend(count, var2);
     if guards::is_dividing(above, var1) {
-        return lines::in_range(refine(words, quotient(above, var1)));
+        return take(lines::in_range(refine(words, quotient(above, var1))));
     }
-    anew(checked::pressure(words, fine, count))
+    PlainChannel {
+        taken: false,
+        value: 0,
+    }
 }

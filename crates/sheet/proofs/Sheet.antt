@@ -20,7 +20,7 @@ use Rattle.sheet.proofs.Agree.{each}
 
 pub sheet-holds : SheetHolds
 unfolding sheet run onValue onValues t.slopeLine t.curveLine t.fineLines t.degreesLine t.temperatureOf
-    p.differenceLine p.offsetLines p.divisorLines p.quotientLines p.curveLine p.slopeLine p.lastLine p.refinedLines p.pressureLines p.pressureFormula p.pressureOf
+    p.differenceLine p.offsetLines p.scaleLines p.divisorLines p.quotientLines p.curveLine p.slopeLine p.lastLine p.refinedLines p.pressureLines p.pressureFormula p.pressureOf
     unbracketedLine h.differenceLine h.levelFactor h.bendFactor h.gainFactor h.productLine h.correctionLine h.humidityLines h.lastLine h.humidityFormula h.humidityOf
     w.samples w.channelPart w.microseconds w.waited poll.firstReady poll.polled
     handed every withRegisters pairsNumber message encodeNumber encodedWrite

@@ -1,6 +1,7 @@
--- `humidity::plain::humidity` meets its contract: the functions give the formula's lines one after the other; where the product is not small the checked road answers.
+-- `humidity::plain::humidity` meets its contract: the functions give the formula's lines one after the other; where the product is not small the road ends.
 use Prim.Native.Nat.{_≤_}
-use mathlib.Core.Path.{refl, sym, _∙_}
+use mathlib.Core.Path.{_≡_, refl, sym, ap, _∙_}
+use mathlib.Core.Bool.{true}
 use lib.IntN.{pos, natAbs, _-ℤ_, _*ℤ_}
 use mir.Syntax.{w32}
 use mir.Val.{toZ, ofZ}
@@ -10,8 +11,8 @@ use Rattle.steps.specs.declared.Signed.the-variants.{Bits32}
 use Rattle.steps.specs.Step.{onValue}
 use Rattle.steps.specs.Work.{run}
 use Rattle.formula_humidity.specs.Humidity.{differenceLine, levelFactor, gainFactor, productLine, humidityLines, humidityFormula, humidityOf}
-use Rattle.formula.specs.Plain.{Gives}
-use Rattle.formula_humidity.specs.Plain.{Small}
+use Rattle.formula.specs.Plain.{Gives, plainly}
+use Rattle.formula_humidity.specs.Plain.{Small, multiplies}
 use Rattle.formula.proofs.Bounds.{local, fit, back, onto, wider, widened, word, literal, times, times-within, minus-within}
 use Rattle.formula_humidity.proofs.Ranges.{small-is}
 use Rattle.formula_humidity.proofs.plain.humidity.Statement.{statement}
@@ -86,17 +87,42 @@ lines c =
     let p = product-is (c .before) in
     onto (difference (c .before .before .before .before .before)) (onto p (rw (back p) at (c .correct .ensures)))
 
-returns : tie.Need-returns
+-- the guard's test is the definition's
+fine-back : (s : tie.Start) → local (toZ w32 (ofZ w32 (s .args .fine))) ≡ s .args .fine
+fine-back s = back (word {w = Bits32} {v = w32} (s .fits .fine) (s .pre .usual .size) refl) ∙ toZ-ofZ (s .fits .fine)
+
+multiplies-is :
+    (c : tie.After-is-small) →
+    multiplies (c .before .before .before .args .words) (c .before .before .before .args .fine) (c .before .before .before .args .count) ≡ c .is-small .result
+unfolding multiplies
+multiplies-is c =
+    let g = c .before in
+    let s = g .before .before in
+    let l = level-is (g .before) in
+    let h = gain-is g in
+    rw (rw (fine-back s) at (l .is), rw (fine-back s) at (h .is), c .is-small .ensures, back (times (wider l) (wider h) refl), back l, back h)
+
+last-is :
+    (c : tie.After-last) →
+    c .last .result
+    ≡ humidityOf
+    (c .before .before .before .before .before .before .args .words)
+    (c .before .before .before .before .before .before .args .fine)
+    (c .before .before .before .before .before .before .args .count)
 unfolding run onValue humidityFormula humidityOf
-returns c = let v = lines (c .before) in rw (v .is) (rw (back v) at (c .last .ensures))
+last-is c = let v = lines (c .before) in rw (v .is) (rw (back v) at (c .last .ensures))
+
+returns : tie.Need-returns
+returns c =
+    let d = c .before .before .before in
+    rw (c .take .ensures, multiplies-is (d .before), d .if1 .taken) (ap (plainly true) (last-is (c .before)))
 
 returns-2 : tie.Need-returns-2
-returns-2 c =
-    let s = c .before .before .before .before .before .before in
-    c .anew .ensures ∙ (rw (toZ-ofZ (s .fits .fine)) at (c .before .humidity .ensures))
+unfolding plainly
+returns-2 c = rw (multiplies-is (c .before), c .if1 .left)
 
 pub humidity-spec : {M : Type 1} → statement M
 humidity-spec =
     tie.close
     (tie.spec cast-difference sub-difference level-requires gain-requires mul-product (λ c κs. search needs) correct-requires
-    (λ c κs. search needs) returns (λ c κs. search needs) (λ c κs. search needs) returns-2)
+    (λ c κs. search needs) (λ c κs. search needs) returns returns-2)

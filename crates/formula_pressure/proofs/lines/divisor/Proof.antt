@@ -9,7 +9,7 @@ use Rattle.steps.specs.declared.Signed.the-variants.{Bits64}
 use Rattle.steps.specs.declared.Num.the-variants.{Value}
 use Rattle.steps.specs.Step.{onValue, onValues, nonzero, added, multiplied, shiftedLeft, shiftedRight}
 use Rattle.steps.specs.Work.{run}
-use Rattle.formula_pressure.specs.Pressure.{divisorLines}
+use Rattle.formula_pressure.specs.Pressure.{scaleLines, divisorLines}
 use Rattle.formula.proofs.Laws.{in-place}
 use Rattle.formula_pressure.proofs.lines.divisor.Statement.{statement}
 use Rattle.formula_pressure.proofs.lines.divisor.Tie as tie
@@ -21,7 +21,7 @@ p3-fits : (s : tie.Start) → SFits w16 (s .args .words .p3)
 p3-fits s = search needs
 
 returns : tie.Need-returns
-unfolding run divisorLines onValue onValues nonzero added multiplied shiftedLeft shiftedRight
+unfolding run scaleLines divisorLines onValue onValues nonzero added multiplied shiftedLeft shiftedRight
 returns c =
     let early = c .before .before .before .before .before .before .before .before in
     let s = early .before .before .before .before .before .before .before .before .before in

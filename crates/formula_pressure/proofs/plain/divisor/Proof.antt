@@ -1,4 +1,4 @@
--- `pressure::plain::divisor` meets its contract: each step stays within its width, by the bounds of its operands. What is no zero passes the test.
+-- `pressure::plain::divisor` meets its contract: each step stays within its width, by the bounds of its operands.
 use mathlib.Core.Path.{refl}
 use lib.IntN.{pos}
 use mir.Syntax.{w16}
@@ -6,11 +6,9 @@ use mir.Val.{SFits}
 use borrow.Author.Needs.{needs}
 use Rattle.steps.specs.declared.Signed.the-variants.{Bits64}
 use Rattle.steps.specs.Work.{given, num}
-use Rattle.paper.specs.Numbers as no
-use Rattle.steps.specs.Step.{isNonzero}
-use Rattle.formula_pressure.specs.Pressure.{divisorLines}
+use Rattle.formula_pressure.specs.Pressure.{scaleLines}
 use Rattle.formula.specs.Plain.{Gives}
-use Rattle.formula.proofs.Bounds.{fit, within, value, onto, passing, Read, widened, plainly, natural, word16, literal, up, down, times, plus}
+use Rattle.formula.proofs.Bounds.{fit, within, value, onto, Read, widened, plainly, natural, word16, literal, up, down, times, plus}
 use Rattle.formula_pressure.proofs.plain.divisor.Statement.{statement}
 use Rattle.formula_pressure.proofs.plain.divisor.Tie as tie
 
@@ -69,12 +67,12 @@ mul-result c =
     fit (times (plus (up (literal 1 refl) 47 refl) var1 refl) (p1 s) refl)
 
 returns : tie.Need-returns
-unfolding divisorLines
-returns c h =
+unfolding scaleLines
+returns c =
     let s = entry c in
     let var1 = plus (down (times (times (difference s) (difference s) refl) (p3 s) refl) 8 refl) (up (times (difference s) (p2 s) refl) 12 refl) refl in
     let whole = down (times (plus (up (literal 1 refl) 47 refl) (value var1) refl) (p1 s) refl) 33 refl in
-    passing (within (onto var1 whole) 1073741824 refl refl) isNonzero no.divisorZero h
+    within {e = scaleLines (s .args .words) (s .args .difference)} (onto var1 whole) 1073741824 refl refl
 
 pub divisor-spec : {M : Type 1} → statement M
 divisor-spec = tie.close (tie.spec (λ c. search needs) cast-p2 cast-p3 mul-var1 mul-var1-2 mul-var1-3 mul-var1-4 add-var1 add-result mul-result returns)

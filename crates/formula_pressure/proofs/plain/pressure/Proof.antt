@@ -1,6 +1,7 @@
--- `pressure::plain::pressure` meets its contract: the functions give the formula's lines one after the other; where their guard does not hold the checked road answers.
+-- `pressure::plain::pressure` meets its contract: the functions give the formula's lines one after the other; where their guard does not hold the road ends.
 use Prim.Native.Nat.{ℕ, _≤_}
-use mathlib.Core.Path.{_≡_, refl, sym, _∙_}
+use mathlib.Core.Path.{_≡_, refl, sym, ap, _∙_}
+use mathlib.Core.Bool.{true}
 use native.Mathlib.Omega.{arith}
 use lib.IntN.{ℤ, pos, natAbs, _-ℤ_}
 use mir.Syntax.{w32, w64}
@@ -12,10 +13,12 @@ use Rattle.steps.specs.declared.Num.{Num}
 use Rattle.steps.specs.declared.Num.the-variants.{Value, Broke}
 use Rattle.steps.specs.Step.{onValue, onValues}
 use Rattle.steps.specs.Work.{run}
-use Rattle.formula_pressure.specs.Pressure.{differenceLine, offsetLines, divisorLines, quotientLines, refinedLines, pressureLines, pressureFormula, pressureOf}
-use Rattle.formula.specs.Plain.{Gives}
-use Rattle.formula_pressure.specs.Plain.{Dividing, dividendLine, divisionLine}
-use Rattle.formula.proofs.Bounds.{local, fit, back, onto, widened, word, literal, minus-within, far-is}
+use Rattle.formula_pressure.specs.Pressure.{differenceLine, offsetLines, scaleLines, divisorLines, quotientLines, refinedLines, pressureLines, pressureFormula, pressureOf}
+use Rattle.paper.specs.Numbers as no
+use Rattle.steps.specs.Step.{isNonzero}
+use Rattle.formula.specs.Plain.{Gives, plainly}
+use Rattle.formula_pressure.specs.Plain.{Dividing, dividendLine, divisionLine, divides}
+use Rattle.formula.proofs.Bounds.{local, fit, back, onto, passing, widened, word, literal, minus-within, far-is}
 use Rattle.formula_pressure.proofs.Ranges.{dividing-is}
 use Rattle.formula_pressure.proofs.plain.pressure.Statement.{statement}
 use Rattle.formula_pressure.proofs.plain.pressure.Tie as tie
@@ -68,8 +71,11 @@ offset-is c = rw (back (difference (c .before))) at (c .offset .ensures)
 dividend-is : (c : tie.After-dividend) → Gives Bits64 11300000000000000 (dividendLine (c .before .before .before .args .count) (c .before .before .offset .result)) (c .dividend .result)
 dividend-is c = rw (back (offset-is (c .before .before))) at (c .dividend .ensures)
 
+scale-is : (c : tie.After-divisor) → Gives Bits64 1073741824 (scaleLines (c .before .before .args .words) (local (toZ w32 (ofZ w32 (c .before .before .args .fine))) -ℤ pos 128000)) (c .divisor .result)
+scale-is c = rw (back (difference (c .before .before))) at (c .divisor .ensures)
+
 divisor-back : (c : tie.After-divisor) → local (c .divisor .result) ≡ c .divisor .result
-divisor-back c = let h : SFits w64 (c .divisor .result) = search needs in toZ-ofZ h
+divisor-back c = back (scale-is c)
 
 dividing : (c : tie.Then1) → Dividing (local (c .before .before .dividend .result)) (local (c .before .before .before .divisor .result))
 dividing c =
@@ -82,10 +88,11 @@ divisor-is :
     Gives Bits64 1073741824
     (divisorLines (c .before .before .before .before .before .args .words) (local (toZ w32 (ofZ w32 (c .before .before .before .before .before .args .fine))) -ℤ pos 128000))
     (c .before .before .before .divisor .result)
+unfolding divisorLines
 divisor-is c =
     let d = c .before .before .before in
     let far : 134217728 ≤ natAbs (d .divisor .result) = rw (divisor-back d) at (dividing c .divisor) in
-    (rw (back (difference (d .before .before))) at (d .divisor .ensures)) (far-is (d .divisor .result) (omega arith) far)
+    passing (scale-is d) isNonzero no.divisorZero (far-is (d .divisor .result) (omega arith) far)
 
 quotient-requires : tie.Need-quotient-requires
 quotient-requires c κs = dividing c
@@ -116,17 +123,43 @@ lines c =
     let whole = divided (o .before .args .count) (o .offset .result) (x .before .divisor .result) (x .dividend .result) (dividend-is x) (quotient-is q) in
     onto (difference (o .before)) (onto (offset-is o) (onto (divisor-is (q .before)) (onto whole (refine-is c))))
 
-returns : tie.Need-returns
+-- the guard's test is the definition's
+fine-back : (s : tie.Start) → local (toZ w32 (ofZ w32 (s .args .fine))) ≡ s .args .fine
+fine-back s = back (word {w = Bits64} {v = w32} (s .fits .fine) (s .pre .usual .size) refl) ∙ toZ-ofZ (s .fits .fine)
+
+divides-is :
+    (c : tie.After-is-dividing) →
+    divides (c .before .before .before .before .args .words) (c .before .before .before .before .args .fine) (c .before .before .before .before .args .count)
+    ≡ c .is-dividing .result
+unfolding divides
+divides-is c =
+    let x = c .before in
+    let o = x .before .before in
+    let above = onto (offset-is o) {f = λ var2. dividendLine (o .before .args .count) var2} (dividend-is x) in
+    let below = scale-is (x .before) in
+    rw (rw (fine-back (o .before)) at (above .is), rw (fine-back (o .before)) at (below .is), c .is-dividing .ensures, back above, back below)
+
+in-range-is :
+    (c : tie.After-in-range) →
+    c .in-range .result
+    ≡ pressureOf
+    (c .before .before .before .before .before .before .before .before .args .words)
+    (c .before .before .before .before .before .before .before .before .args .fine)
+    (c .before .before .before .before .before .before .before .before .args .count)
 unfolding run onValue pressureFormula pressureOf
-returns c = let p = lines (c .before) in rw (p .is) (rw (back p) at (c .in-range .ensures))
+in-range-is c = let p = lines (c .before) in rw (p .is) (rw (back p) at (c .in-range .ensures))
+
+returns : tie.Need-returns
+returns c =
+    let d = c .before .before .before .before in
+    rw (c .take .ensures, divides-is (d .before), d .if1 .taken) (ap (plainly true) (in-range-is (c .before)))
 
 returns-2 : tie.Need-returns-2
-returns-2 c =
-    let s = c .before .before .before .before .before .before .before in
-    c .anew .ensures ∙ (rw (toZ-ofZ (s .fits .fine)) at (c .before .pressure .ensures))
+unfolding plainly
+returns-2 c = rw (divides-is (c .before), c .if1 .left)
 
 pub pressure-spec : {M : Type 1} → statement M
 pressure-spec =
     tie.close
     (tie.spec cast-difference sub-difference offset-requires divisor-requires (λ c κs. search needs) (λ c κs. search needs) quotient-requires
-    (λ c κs. search needs) (λ c κs. search needs) returns (λ c κs. search needs) (λ c κs. search needs) returns-2)
+    (λ c κs. search needs) (λ c κs. search needs) (λ c κs. search needs) returns returns-2)
