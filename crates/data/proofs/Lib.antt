@@ -1,2 +1,3 @@
--- Why the layout goes both ways.
+-- Why the counts may be taken out of one number, and why the layout goes both ways.
+pub mod Joined
 pub mod RoundTrip

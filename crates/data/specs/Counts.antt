@@ -21,6 +21,17 @@ countsOf bytes =
       humidity = sixteenBits (getD bytes 6 0) (getD bytes 7 0);
     }
 
+-- ---- the same by way of one number of 64 bits, high byte first
+
+abbrev pub joined : ℕ → ℕ → ℕ → ℕ → ℕ → ℕ → ℕ → ℕ → ℕ
+joined b0 b1 b2 b3 b4 b5 b6 b7 =
+    b0 * 0x100000000000000 + b1 * 0x1000000000000 + b2 * 0x10000000000 + b3 * 0x100000000
+    + b4 * 0x1000000 + b5 * 0x10000 + b6 * 0x100 + b7
+
+abbrev pub parted : ℕ → Counts
+parted all =
+    record { temperature = all / 0x100000 % 0x100000; pressure = all / 0x100000000000; humidity = all % 0x10000 }
+
 -- ---- laid out
 
 -- of temperature, pressure and humidity; the low nibbles of 0xF9 and 0xFC are 0
