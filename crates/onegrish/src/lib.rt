@@ -8,13 +8,12 @@ ghost use Rattle.bus.specs.declared.Bus.the-variants.{I2c, Spi};
 ghost use Rattle.bus.specs.declared.Device.the-variants.{At, Selected};
 ghost use Rattle.bus.specs.Writing.{encodedWrite, decodedWrite};
 ghost use Rattle.bus.specs.Reading.{encodedRead};
-ghost use Rattle.onegrish_answers.specs.Channels.{readingInto};
+ghost use Rattle.onegrish_reading.specs.Channels.{readingInto};
 ghost use Rattle.onegrish_answers.specs.Handed.{numberInto, placeInto, pollsOf};
 ghost use Rattle.onegrish.specs.Lent.{bytesInto, pairsInto};
 ghost use Rattle.onegrish.specs.Version.{version};
 use bus::Bus;
 use bus::Device;
-use onegrish_answers::channels;
 use onegrish_answers::messages;
 use onegrish_answers::times;
 use waiting::Estimate;
@@ -48,8 +47,12 @@ pub extern "C" fn onegrish_compensate(
     ensures { λ r. ⌜ (r, now (numbers .exit), now (values .exit))
         ≡ readingInto (compensated (now (one .entry)) (now (two .entry)) (now (bytes .entry)) t p h) (now (numbers .entry)) (now (values .entry)) ⌝ }
 {
-    channels::hand_reading(
-        compensation::compensate(one, two, bytes, t, p, h),
+    onegrish_reading::hand_compensated(
+        calibration::calibrate(one, two),
+        bytes,
+        t,
+        p,
+        h,
         numbers,
         values,
     )

@@ -1,3 +1,2 @@
 -- What lent places hold once the library's answers are handed over in them.
-pub mod Channels
 pub mod Handed

@@ -3,13 +3,12 @@
 ghost use mathlib.Core.Path.{_≡_};
 ghost use Rattle.calibration.specs.Calibration.{calibrated};
 ghost use Rattle.onegrish_words.specs.Words.{wordsInto};
-ghost use Rattle.onegrish_answers.specs.Channels.{readingInto};
+ghost use Rattle.onegrish_reading.specs.Channels.{readingInto};
 ghost use Rattle.onegrish_words.specs.Kept.{compensatedKept};
 
 mod words;
 
 use compensation::Answer;
-use onegrish_answers::channels;
 
 // The 18 words T1 to T3, P1 to P9, H1 to H6 of the two calibration blocks, at the front of `words`.
 // 2 for blocks that are not 26 and 7 bytes long, then 9 for fewer than 18 places.

@@ -1,0 +1,2 @@
+-- What it means that the plain road is tried.
+pub mod Tried

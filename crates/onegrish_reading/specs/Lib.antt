@@ -1,0 +1,3 @@
+-- What lent places hold once a reading is handed over in them.
+pub mod Channels
+pub mod Plain
