@@ -8,8 +8,6 @@ ghost use Rattle.onegrish_words.specs.Kept.{compensatedKept};
 
 mod words;
 
-use compensation::Answer;
-
 // The 18 words T1 to T3, P1 to P9, H1 to H6 of the two calibration blocks, at the front of `words`.
 // 2 for blocks that are not 26 and 7 bytes long, then 9 for fewer than 18 places.
 #[no_mangle]
@@ -21,7 +19,7 @@ pub extern "C" fn onegrish_words(one: &[u8], two: &[u8], words: &mut [i16]) -> u
 
 // One reading with kept words: its channels' numbers at the front of `numbers`, and at the front of `values` the temperature, the fine
 // temperature, the pressure and the humidity. A channel whose number is not 0 leaves its places in `values` as they were.
-// 2 for lengths, 7 for words and codes, then 9 for fewer than 3 numbers or 4 values.
+// 2 for lengths, which are all looked at first, 7 for words and codes, then 9 for fewer than 3 numbers or 4 values.
 #[no_mangle]
 pub extern "C" fn onegrish_compensate_words(
     words: &[i16],
@@ -35,17 +33,16 @@ pub extern "C" fn onegrish_compensate_words(
     ensures { λ r. ⌜ (r, now (numbers .exit), now (values .exit))
         ≡ readingInto (compensatedKept (now (words .entry)) (now (bytes .entry)) t p h) (now (numbers .entry)) (now (values .entry)) ⌝ }
 {
-    channels::hand_reading(compensate_kept(words, bytes, t, p, h), numbers, values)
-}
-
-// The reading of eight bytes with kept words, or the number that refuses it.
-// All lengths are looked at before the words and the codes.
-fn compensate_kept(words: &[i16], bytes: &[u8], t: u8, p: u8, h: u8) -> Answer
-    ensures { λ r. ⌜ r ≡ compensatedKept (now (words .entry)) (now (bytes .entry)) t p h ⌝ }
-{
     if bytes.len() == paper::DATA {
-        compensation::compensate_with(words::take_words(words), bytes, t, p, h)
-    } else {
-        Answer::Refused(paper::WRONG_LENGTH)
+        return onegrish_reading::hand_compensated(
+            words::take_words(words),
+            bytes,
+            t,
+            p,
+            h,
+            numbers,
+            values,
+        );
     }
+    paper::WRONG_LENGTH
 }
