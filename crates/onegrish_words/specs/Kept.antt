@@ -10,7 +10,7 @@ use Rattle.paper.specs.Registers as reg
 use Rattle.compensation.specs.declared.Answer.{Answer}
 use Rattle.compensation.specs.declared.Answer.the-variants.{Refused}
 use Rattle.compensation.specs.Compensation.{compensatedWith}
-use Rattle.onegrish_words.specs.Words.{taken}
+use Rattle.onegrish_kept.specs.Words.{taken}
 
 unfoldable pub compensatedKept : List ℤ → List ℕ → ℕ → ℕ → ℕ → Answer
 compensatedKept words bytes t p h =

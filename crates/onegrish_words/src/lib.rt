@@ -2,11 +2,9 @@
 // It stands apart from the crate onegrish because the compiler puts the formulas whole into a call only where no other call has them.
 ghost use mathlib.Core.Path.{_≡_};
 ghost use Rattle.calibration.specs.Calibration.{calibrated};
-ghost use Rattle.onegrish_words.specs.Words.{wordsInto};
+ghost use Rattle.onegrish_kept.specs.Words.{wordsInto};
 ghost use Rattle.onegrish_reading.specs.Channels.{readingInto};
 ghost use Rattle.onegrish_words.specs.Kept.{compensatedKept};
-
-mod words;
 
 // The 18 words T1 to T3, P1 to P9, H1 to H6 of the two calibration blocks, at the front of `words`.
 // 2 for blocks that are not 26 and 7 bytes long, then 9 for fewer than 18 places.
@@ -14,7 +12,7 @@ mod words;
 pub extern "C" fn onegrish_words(one: &[u8], two: &[u8], words: &mut [i16]) -> u8
     ensures { λ r. ⌜ (r, now (words .exit)) ≡ wordsInto (calibrated (now (one .entry)) (now (two .entry))) (now (words .entry)) ⌝ }
 {
-    words::hand_words(calibration::calibrate(one, two), words)
+    onegrish_kept::hand_words(calibration::calibrate(one, two), words)
 }
 
 // One reading with kept words: its channels' numbers at the front of `numbers`, and at the front of `values` the temperature, the fine
@@ -35,7 +33,7 @@ pub extern "C" fn onegrish_compensate_words(
 {
     if bytes.len() == paper::DATA {
         return onegrish_reading::hand_compensated(
-            words::take_words(words),
+            onegrish_kept::take_words(words),
             bytes,
             t,
             p,
