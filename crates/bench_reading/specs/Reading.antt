@@ -7,7 +7,7 @@ use Rattle.calibration.specs.Calibration.{calibrated}
 use Rattle.formula.specs.declared.TemperatureAnswer.{TemperatureAnswer}
 use Rattle.formula.specs.declared.TemperatureAnswer.the-variants as heat
 use Rattle.formula.specs.declared.ChannelAnswer.{ChannelAnswer}
-use Rattle.formula.specs.declared.ChannelAnswer.the-variants as channel
+use Rattle.formula.specs.declared.ChannelAnswer.the-variants as the
 use Rattle.compensation.specs.declared.Answer.{Answer}
 use Rattle.compensation.specs.declared.Answer.the-variants.{Done, Refused}
 use Rattle.compensation.specs.declared.Reading.{Reading}
@@ -31,19 +31,16 @@ abbrev pub temperature : TemperatureAnswer → List ℕ
 temperature (heat.Known value fine) = known value fine
 temperature (heat.Missing m) = missing (m .number)
 
-abbrev pub one : List ℕ → ℕ → List ℕ
-one form n = filled form (n ∷ [])
+-- a number after its name and a mark: `=` for a value, `!` for a number in its place
+abbrev pub one : List ℕ → List ℕ → ℕ → List ℕ
+one name mark n = filled (letters " " ++ (name ++ (mark ++ letters "#"))) (n ∷ [])
 
-abbrev pub pressure : ChannelAnswer → List ℕ
-pressure (channel.Known value) = one (letters " p=#") value
-pressure (channel.Missing m) = one (letters " p!#") (m .number)
-
-abbrev pub humidity : ChannelAnswer → List ℕ
-humidity (channel.Known value) = one (letters " h=#") value
-humidity (channel.Missing m) = one (letters " h!#") (m .number)
+abbrev pub channel : List ℕ → ChannelAnswer → List ℕ
+channel name (the.Known value) = one name (letters "=") value
+channel name (the.Missing m) = one name (letters "!") (m .number)
 
 unfoldable pub reading : Reading → List ℕ
-reading r = temperature (r .temperature) ++ (pressure (r .pressure) ++ humidity (r .humidity))
+reading r = temperature (r .temperature) ++ (channel (letters "p") (r .pressure) ++ channel (letters "h") (r .humidity))
 
 abbrev pub answered : Answer → List ℕ
 answered (Refused number) = decimal number
