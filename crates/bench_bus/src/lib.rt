@@ -43,7 +43,7 @@ fn write_into(device: Device, pairs: &[u8], lent: &mut [u8], out: &mut [u8], at:
     ensures { λ r. ⌜ (now (out .exit), r) ≡ (now (out .entry), at) ▹ messages.message (encodedWrite device (now (pairs .entry)) (now (lent .entry))) ⌝ }
 {
     let encoded = bus::encode_write(device, pairs, lent);
-    write_encoded(encoded, lent, out, at)
+    write_decoded(unaddressed(encoded), lent, out, at)
 }
 
 // Writes the messages of a read, encoded in a lent buffer.
@@ -51,7 +51,7 @@ fn read_into(device: Device, register: u8, lent: &mut [u8], out: &mut [u8], at: 
     ensures { λ r. ⌜ (now (out .exit), r) ≡ (now (out .entry), at) ▹ messages.message (encodedRead device register (now (lent .entry))) ⌝ }
 {
     let encoded = bus::encode_read(device, register, lent);
-    write_encoded(encoded, lent, out, at)
+    write_decoded(unaddressed(encoded), lent, out, at)
 }
 
 // Writes the pairs of a write, decoded in a lent buffer.
@@ -62,12 +62,14 @@ fn decode_into(bus: Bus, bytes: &[u8], lent: &mut [u8], out: &mut [u8], at: usiz
     write_decoded(decoded, lent, out, at)
 }
 
-// Writes what encoding answers, and the buffer.
-fn write_encoded(encoded: Encoded, lent: &[u8], out: &mut [u8], at: usize) -> usize
-    ensures { λ r. ⌜ (now (out .exit), r) ≡ (now (out .entry), at) ▹ messages.message (encodedAnswer encoded, now (lent .entry)) ⌝ }
+// What encoding answers, as decoding answers for a device that has no address.
+fn unaddressed(encoded: Encoded) -> Decoded
+    ensures { λ r. ⌜ decodedAnswer r ≡ encodedAnswer encoded ⌝ }
 {
-    let next = write_length(encoded, out, at);
-    bench_row::write_buffer(lent, out, next)
+    match encoded {
+        Encoded::Bytes(bytes) => Decoded::Pairs { device: Device::Selected, bytes },
+        Encoded::Refused(number) => Decoded::Refused(number),
+    }
 }
 
 // Writes what decoding answers, and the buffer.
@@ -76,16 +78,6 @@ fn write_decoded(decoded: Decoded, lent: &[u8], out: &mut [u8], at: usize) -> us
 {
     let next = write_found(decoded, out, at);
     bench_row::write_buffer(lent, out, next)
-}
-
-// Writes how many bytes a message has, or the number that refuses it.
-fn write_length(encoded: Encoded, out: &mut [u8], at: usize) -> usize
-    ensures { λ r. ⌜ (now (out .exit), r) ≡ (now (out .entry), at) ▹ messages.answered (encodedAnswer encoded) ⌝ }
-{
-    match encoded {
-        Encoded::Bytes(n) => write_count(n, out, at),
-        Encoded::Refused(number) => bench_page::write_decimal(number as u64, out, at),
-    }
 }
 
 // Writes the device and how many bytes its pairs have, or the number that refuses them.
