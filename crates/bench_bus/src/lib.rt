@@ -17,7 +17,8 @@ pub fn write(device: Device, pairs: &[u8], room: usize, out: &mut [u8], at: usiz
 {
     let mut lent = bench_lent::filled();
     let n = bench_lent::within(room);
-    write_into(device, pairs, &mut lent[..n], out, at)
+    let encoded = bus::encode_write(device, pairs, &mut lent[..n]);
+    write_decoded(unaddressed(encoded), &lent[..n], out, at)
 }
 
 // Writes the messages of a read, encoded in a buffer of so many bytes.
@@ -26,7 +27,8 @@ pub fn read(device: Device, register: u8, room: usize, out: &mut [u8], at: usize
 {
     let mut lent = bench_lent::filled();
     let n = bench_lent::within(room);
-    read_into(device, register, &mut lent[..n], out, at)
+    let encoded = bus::encode_read(device, register, &mut lent[..n]);
+    write_decoded(unaddressed(encoded), &lent[..n], out, at)
 }
 
 // Writes the pairs of a write, decoded in a buffer of so many bytes.
@@ -35,31 +37,8 @@ pub fn decode(bus: Bus, bytes: &[u8], room: usize, out: &mut [u8], at: usize) ->
 {
     let mut lent = bench_lent::filled();
     let n = bench_lent::within(room);
-    decode_into(bus, bytes, &mut lent[..n], out, at)
-}
-
-// Writes the message of a write, encoded in a lent buffer.
-fn write_into(device: Device, pairs: &[u8], lent: &mut [u8], out: &mut [u8], at: usize) -> usize
-    ensures { λ r. ⌜ (now (out .exit), r) ≡ (now (out .entry), at) ▹ messages.message (encodedWrite device (now (pairs .entry)) (now (lent .entry))) ⌝ }
-{
-    let encoded = bus::encode_write(device, pairs, lent);
-    write_decoded(unaddressed(encoded), lent, out, at)
-}
-
-// Writes the messages of a read, encoded in a lent buffer.
-fn read_into(device: Device, register: u8, lent: &mut [u8], out: &mut [u8], at: usize) -> usize
-    ensures { λ r. ⌜ (now (out .exit), r) ≡ (now (out .entry), at) ▹ messages.message (encodedRead device register (now (lent .entry))) ⌝ }
-{
-    let encoded = bus::encode_read(device, register, lent);
-    write_decoded(unaddressed(encoded), lent, out, at)
-}
-
-// Writes the pairs of a write, decoded in a lent buffer.
-fn decode_into(bus: Bus, bytes: &[u8], lent: &mut [u8], out: &mut [u8], at: usize) -> usize
-    ensures { λ r. ⌜ (now (out .exit), r) ≡ (now (out .entry), at) ▹ messages.message (decodedWrite bus (now (bytes .entry)) (now (lent .entry))) ⌝ }
-{
-    let decoded = bus::decode_write(bus, bytes, lent);
-    write_decoded(decoded, lent, out, at)
+    let decoded = bus::decode_write(bus, bytes, &mut lent[..n]);
+    write_decoded(decoded, &lent[..n], out, at)
 }
 
 // What encoding answers, as decoding answers for a device that has no address.
