@@ -46,7 +46,10 @@ fn unaddressed(encoded: Encoded) -> Decoded
     ensures { λ r. ⌜ decodedAnswer r ≡ encodedAnswer encoded ⌝ }
 {
     match encoded {
-        Encoded::Bytes(bytes) => Decoded::Pairs { device: Device::Selected, bytes },
+        Encoded::Bytes(bytes) => Decoded::Pairs {
+            device: Device::Selected,
+            bytes,
+        },
         Encoded::Refused(number) => Decoded::Refused(number),
     }
 }

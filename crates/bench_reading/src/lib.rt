@@ -83,7 +83,13 @@ fn write_channel(letter: u8, channel: ChannelAnswer, out: &mut [u8], at: usize) 
 {
     match channel {
         ChannelAnswer::Known(value) => write_number(letter, b'=', value as u64, out, at),
-        ChannelAnswer::Missing(missing) => write_number(letter, b'!', missing.number as u64, out, at),
+        ChannelAnswer::Missing(missing) => write_number(
+            letter,
+            b'!',
+            missing.number as u64,
+            out,
+            at,
+        ),
     }
 }
 
