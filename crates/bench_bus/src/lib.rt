@@ -77,26 +77,12 @@ fn write_device(device: Device, n: usize, out: &mut [u8], at: usize) -> usize
     ensures { λ r. ⌜ (now (out .exit), r) ≡ (now (out .entry), at) ▹ messages.found device n ⌝ }
 {
     match device {
-        Device::At(address) => write_address(address, n, out, at),
-        Device::Selected => write_count(n, out, at),
+        Device::At(address) => bench_row::fill(
+            b"# addr=@ n=#",
+            &[paper::DONE as u64, address as u64, n as u64],
+            out,
+            at,
+        ),
+        Device::Selected => bench_row::fill(b"# n=#", &[paper::DONE as u64, n as u64], out, at),
     }
-}
-
-// Writes an address and a number of bytes.
-fn write_address(address: u8, n: usize, out: &mut [u8], at: usize) -> usize
-    ensures { λ r. ⌜ (now (out .exit), r) ≡ (now (out .entry), at) ▹ messages.addressed done address n ⌝ }
-{
-    bench_row::fill(
-        b"# addr=@ n=#",
-        &[paper::DONE as u64, address as u64, n as u64],
-        out,
-        at,
-    )
-}
-
-// Writes a number of bytes.
-fn write_count(n: usize, out: &mut [u8], at: usize) -> usize
-    ensures { λ r. ⌜ (now (out .exit), r) ≡ (now (out .entry), at) ▹ messages.counted done n ⌝ }
-{
-    bench_row::fill(b"# n=#", &[paper::DONE as u64, n as u64], out, at)
 }
