@@ -1,6 +1,5 @@
 // Bus bytes: i2c, spi.
 ghost use mathlib.Core.Path.{_≡_};
-ghost use Rattle.paper.specs.Numbers.{done};
 ghost use Rattle.bus.specs.Writing.{encodedAnswer, decodedAnswer, encodedWrite, decodedWrite};
 ghost use Rattle.bus.specs.Reading.{encodedRead};
 ghost use Rattle.bench_page.specs.Page.{_▹_};
