@@ -1,7 +1,7 @@
 -- cal: a chip's words. comp: `0 t=.. fine=.. p=.. h=..`, with `t!N`, `p!N`, `h!N` for a channel that has a number in its place, or the number that refuses it.
 use Prim.Native.Nat.{ℕ}
 use mathlib.Core.List.{List, [], _∷_, _++_}
-use lib.IntN.{ℤ, pos}
+use lib.IntN.{ℤ}
 use Rattle.paper.specs.Numbers.{done}
 use Rattle.calibration.specs.Calibration.{calibrated}
 use Rattle.formula.specs.declared.TemperatureAnswer.{TemperatureAnswer}
@@ -20,20 +20,21 @@ use Rattle.bench_calibration.specs.Words.{calibration}
 abbrev pub cal : List ℕ → List ℕ → List ℕ
 cal first second = calibration (calibrated first second)
 
--- the fine temperature goes with the temperature
-abbrev pub known : ℤ → ℤ → List ℕ
-known value fine = filledSigned (letters "# t=# fine=#") (pos done ∷ value ∷ fine ∷ [])
-
-abbrev pub missing : ℕ → List ℕ
-missing number = filled (letters "# t!#") (done ∷ number ∷ [])
-
-abbrev pub temperature : TemperatureAnswer → List ℕ
-temperature (heat.Known value fine) = known value fine
-temperature (heat.Missing m) = missing (m .number)
-
 -- a number after its name and a mark: `=` for a value, `!` for a number in its place
 abbrev pub one : List ℕ → List ℕ → ℕ → List ℕ
 one name mark n = filled (letters " " ++ (name ++ (mark ++ letters "#"))) (n ∷ [])
+
+-- the fine temperature goes with the temperature
+abbrev pub known : ℤ → ℤ → List ℕ
+known value fine = filledSigned (letters " t=# fine=#") (value ∷ fine ∷ [])
+
+abbrev pub told : TemperatureAnswer → List ℕ
+told (heat.Known value fine) = known value fine
+told (heat.Missing m) = one (letters "t") (letters "!") (m .number)
+
+-- after the number that says there is a reading
+unfoldable pub temperature : TemperatureAnswer → List ℕ
+temperature t = decimal done ++ told t
 
 abbrev pub channel : List ℕ → ChannelAnswer → List ℕ
 channel name (the.Known value) = one name (letters "=") value

@@ -41,7 +41,7 @@ fn write_answer(answer: Answer, out: &mut [u8], at: usize) -> usize
     }
 }
 
-// Writes the three channels, after the number that says there is a reading.
+// Writes the three channels of a reading.
 fn write_reading(reading: Reading, out: &mut [u8], at: usize) -> usize
     ensures { λ r. ⌜ (now (out .exit), r) ≡ (now (out .entry), at) ▹ text.reading reading ⌝ }
 {
@@ -53,13 +53,20 @@ fn write_reading(reading: Reading, out: &mut [u8], at: usize) -> usize
     write_channel(b'h', h, out, b)
 }
 
-// Writes a temperature with its fine temperature, or the number in their place.
+// Writes the number that says there is a reading, and a temperature with its fine temperature, or the number in their place.
 fn write_temperature(channel: TemperatureAnswer, out: &mut [u8], at: usize) -> usize
     ensures { λ r. ⌜ (now (out .exit), r) ≡ (now (out .entry), at) ▹ text.temperature channel ⌝ }
 {
+    let next = bench_page::write_decimal(paper::DONE as u64, out, at);
     match channel {
-        TemperatureAnswer::Known { value, fine } => write_known(value, fine, out, at),
-        TemperatureAnswer::Missing(missing) => write_missing(missing.number, out, at),
+        TemperatureAnswer::Known { value, fine } => write_known(value, fine, out, next),
+        TemperatureAnswer::Missing(missing) => write_number(
+            b't',
+            b'!',
+            missing.number as u64,
+            out,
+            next,
+        ),
     }
 }
 
@@ -67,14 +74,7 @@ fn write_temperature(channel: TemperatureAnswer, out: &mut [u8], at: usize) -> u
 fn write_known(value: i32, fine: i32, out: &mut [u8], at: usize) -> usize
     ensures { λ r. ⌜ (now (out .exit), r) ≡ (now (out .entry), at) ▹ text.known value fine ⌝ }
 {
-    bench_row::fill_signed(b"# t=# fine=#", &[paper::DONE as i32, value, fine], out, at)
-}
-
-// Writes the number in a temperature's place.
-fn write_missing(number: u8, out: &mut [u8], at: usize) -> usize
-    ensures { λ r. ⌜ (now (out .exit), r) ≡ (now (out .entry), at) ▹ text.missing number ⌝ }
-{
-    bench_row::fill(b"# t!#", &[paper::DONE as u64, number as u64], out, at)
+    bench_row::fill_signed(b" t=# fine=#", &[value, fine], out, at)
 }
 
 // Writes a pressure or a humidity after its letter, or the number in its place.
