@@ -60,13 +60,7 @@ fn write_temperature(channel: TemperatureAnswer, out: &mut [u8], at: usize) -> u
     let next = bench_page::write_decimal(paper::DONE as u64, out, at);
     match channel {
         TemperatureAnswer::Known { value, fine } => write_known(value, fine, out, next),
-        TemperatureAnswer::Missing(missing) => write_number(
-            b't',
-            b'!',
-            missing.number as u64,
-            out,
-            next,
-        ),
+        TemperatureAnswer::Missing(m) => write_number(b't', b'!', m.number as u64, out, next),
     }
 }
 
@@ -83,13 +77,7 @@ fn write_channel(letter: u8, channel: ChannelAnswer, out: &mut [u8], at: usize) 
 {
     match channel {
         ChannelAnswer::Known(value) => write_number(letter, b'=', value as u64, out, at),
-        ChannelAnswer::Missing(missing) => write_number(
-            letter,
-            b'!',
-            missing.number as u64,
-            out,
-            at,
-        ),
+        ChannelAnswer::Missing(m) => write_number(letter, b'!', m.number as u64, out, at),
     }
 }
 
