@@ -1,7 +1,6 @@
 // What an event hands back, as text.
 ghost use mathlib.Core.Path.{_≡_};
 ghost use Rattle.bench_page.specs.Page.{_▹_};
-ghost use Rattle.bench_lent.specs.Lent.{lentOf};
 ghost use Rattle.bench_row.specs.Row.{buffer};
 ghost use Rattle.bench_outcome.specs.Outcomes as text;
 use machine::Tally;
