@@ -1,6 +1,5 @@
 // Bus bytes: i2c, spi.
 ghost use mathlib.Core.Path.{_≡_};
-ghost use Rattle.paper.specs.Numbers.{done};
 ghost use Rattle.bus.specs.Writing.{encodedAnswer, decodedAnswer, encodedWrite, decodedWrite};
 ghost use Rattle.bus.specs.Reading.{encodedRead};
 ghost use Rattle.bench_page.specs.Page.{_▹_};
@@ -17,7 +16,8 @@ pub fn write(device: Device, pairs: &[u8], room: usize, out: &mut [u8], at: usiz
 {
     let mut lent = bench_lent::filled();
     let n = bench_lent::within(room);
-    write_into(device, pairs, &mut lent[..n], out, at)
+    let encoded = bus::encode_write(device, pairs, &mut lent[..n]);
+    write_decoded(unaddressed(encoded), &lent[..n], out, at)
 }
 
 // Writes the messages of a read, encoded in a buffer of so many bytes.
@@ -26,7 +26,8 @@ pub fn read(device: Device, register: u8, room: usize, out: &mut [u8], at: usize
 {
     let mut lent = bench_lent::filled();
     let n = bench_lent::within(room);
-    read_into(device, register, &mut lent[..n], out, at)
+    let encoded = bus::encode_read(device, register, &mut lent[..n]);
+    write_decoded(unaddressed(encoded), &lent[..n], out, at)
 }
 
 // Writes the pairs of a write, decoded in a buffer of so many bytes.
@@ -35,39 +36,21 @@ pub fn decode(bus: Bus, bytes: &[u8], room: usize, out: &mut [u8], at: usize) ->
 {
     let mut lent = bench_lent::filled();
     let n = bench_lent::within(room);
-    decode_into(bus, bytes, &mut lent[..n], out, at)
+    let decoded = bus::decode_write(bus, bytes, &mut lent[..n]);
+    write_decoded(decoded, &lent[..n], out, at)
 }
 
-// Writes the message of a write, encoded in a lent buffer.
-fn write_into(device: Device, pairs: &[u8], lent: &mut [u8], out: &mut [u8], at: usize) -> usize
-    ensures { λ r. ⌜ (now (out .exit), r) ≡ (now (out .entry), at) ▹ messages.message (encodedWrite device (now (pairs .entry)) (now (lent .entry))) ⌝ }
+// What encoding answers, as decoding answers for a device that has no address.
+fn unaddressed(encoded: Encoded) -> Decoded
+    ensures { λ r. ⌜ decodedAnswer r ≡ encodedAnswer encoded ⌝ }
 {
-    let encoded = bus::encode_write(device, pairs, lent);
-    write_encoded(encoded, lent, out, at)
-}
-
-// Writes the messages of a read, encoded in a lent buffer.
-fn read_into(device: Device, register: u8, lent: &mut [u8], out: &mut [u8], at: usize) -> usize
-    ensures { λ r. ⌜ (now (out .exit), r) ≡ (now (out .entry), at) ▹ messages.message (encodedRead device register (now (lent .entry))) ⌝ }
-{
-    let encoded = bus::encode_read(device, register, lent);
-    write_encoded(encoded, lent, out, at)
-}
-
-// Writes the pairs of a write, decoded in a lent buffer.
-fn decode_into(bus: Bus, bytes: &[u8], lent: &mut [u8], out: &mut [u8], at: usize) -> usize
-    ensures { λ r. ⌜ (now (out .exit), r) ≡ (now (out .entry), at) ▹ messages.message (decodedWrite bus (now (bytes .entry)) (now (lent .entry))) ⌝ }
-{
-    let decoded = bus::decode_write(bus, bytes, lent);
-    write_decoded(decoded, lent, out, at)
-}
-
-// Writes what encoding answers, and the buffer.
-fn write_encoded(encoded: Encoded, lent: &[u8], out: &mut [u8], at: usize) -> usize
-    ensures { λ r. ⌜ (now (out .exit), r) ≡ (now (out .entry), at) ▹ messages.message (encodedAnswer encoded, now (lent .entry)) ⌝ }
-{
-    let next = write_length(encoded, out, at);
-    bench_row::write_buffer(lent, out, next)
+    match encoded {
+        Encoded::Bytes(bytes) => Decoded::Pairs {
+            device: Device::Selected,
+            bytes,
+        },
+        Encoded::Refused(number) => Decoded::Refused(number),
+    }
 }
 
 // Writes what decoding answers, and the buffer.
@@ -76,16 +59,6 @@ fn write_decoded(decoded: Decoded, lent: &[u8], out: &mut [u8], at: usize) -> us
 {
     let next = write_found(decoded, out, at);
     bench_row::write_buffer(lent, out, next)
-}
-
-// Writes how many bytes a message has, or the number that refuses it.
-fn write_length(encoded: Encoded, out: &mut [u8], at: usize) -> usize
-    ensures { λ r. ⌜ (now (out .exit), r) ≡ (now (out .entry), at) ▹ messages.answered (encodedAnswer encoded) ⌝ }
-{
-    match encoded {
-        Encoded::Bytes(n) => write_count(n, out, at),
-        Encoded::Refused(number) => bench_page::write_decimal(number as u64, out, at),
-    }
 }
 
 // Writes the device and how many bytes its pairs have, or the number that refuses them.
@@ -103,26 +76,12 @@ fn write_device(device: Device, n: usize, out: &mut [u8], at: usize) -> usize
     ensures { λ r. ⌜ (now (out .exit), r) ≡ (now (out .entry), at) ▹ messages.found device n ⌝ }
 {
     match device {
-        Device::At(address) => write_address(address, n, out, at),
-        Device::Selected => write_count(n, out, at),
+        Device::At(address) => bench_row::fill(
+            b"# addr=@ n=#",
+            &[paper::DONE as u64, address as u64, n as u64],
+            out,
+            at,
+        ),
+        Device::Selected => bench_row::fill(b"# n=#", &[paper::DONE as u64, n as u64], out, at),
     }
-}
-
-// Writes an address and a number of bytes.
-fn write_address(address: u8, n: usize, out: &mut [u8], at: usize) -> usize
-    ensures { λ r. ⌜ (now (out .exit), r) ≡ (now (out .entry), at) ▹ messages.addressed done address n ⌝ }
-{
-    bench_row::fill(
-        b"# addr=@ n=#",
-        &[paper::DONE as u64, address as u64, n as u64],
-        out,
-        at,
-    )
-}
-
-// Writes a number of bytes.
-fn write_count(n: usize, out: &mut [u8], at: usize) -> usize
-    ensures { λ r. ⌜ (now (out .exit), r) ≡ (now (out .entry), at) ▹ messages.counted done n ⌝ }
-{
-    bench_row::fill(b"# n=#", &[paper::DONE as u64, n as u64], out, at)
 }

@@ -8,10 +8,10 @@ ghost use Rattle.bench_lent.specs.Lent as lent;
 pub const LONGEST_BUFFER: usize = 256;
 
 // A lent buffer of the longest length, filled with AA.
-pub fn filled() -> [u8; 256]
+pub fn filled() -> [u8; LONGEST_BUFFER]
     ensures { λ r. ⌜ (r ≡ lent.filled) × (256 ≡ size r) ⌝ }
 {
-    [0xAA; 256]
+    [0xAA; LONGEST_BUFFER]
 }
 
 // A buffer's length within the longest.

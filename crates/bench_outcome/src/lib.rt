@@ -1,7 +1,6 @@
 // What an event hands back, as text.
 ghost use mathlib.Core.Path.{_≡_};
 ghost use Rattle.bench_page.specs.Page.{_▹_};
-ghost use Rattle.bench_lent.specs.Lent.{lentOf};
 ghost use Rattle.bench_row.specs.Row.{buffer};
 ghost use Rattle.bench_outcome.specs.Outcomes as text;
 use machine::Tally;
@@ -33,7 +32,10 @@ pub fn write_said(said: Said, shape: Shape, out: &mut [u8], at: usize) -> usize
     match shape {
         Shape::Number => bench_page::write_decimal(said.answer as u64, out, at),
         Shape::Byte => write_value(said.answer, said.value, out, at),
-        Shape::Close(length) => write_close(said, length, out, at),
+        Shape::Close(length) => {
+            let next = write_closing(said, out, at);
+            write_left(said, length, out, next)
+        }
     }
 }
 
@@ -47,41 +49,26 @@ fn write_value(answer: u8, value: u8, out: &mut [u8], at: usize) -> usize
     bench_page::write_decimal(answer as u64, out, at)
 }
 
-// Writes what a close says, and the lent buffer after it.
-fn write_close(said: Said, length: usize, out: &mut [u8], at: usize) -> usize
-    ensures { λ r. ⌜ (now (out .exit), r) ≡ (now (out .entry), at) ▹ text.closed said length ⌝ }
-{
-    let next = write_closing(said, out, at);
-    write_left(said, length, out, next)
-}
-
 // Writes a close's number, and where it is done what the burst showed.
 fn write_closing(said: Said, out: &mut [u8], at: usize) -> usize
     ensures { λ r. ⌜ (now (out .exit), r) ≡ (now (out .entry), at) ▹ text.closing said ⌝ }
 {
     if said.answer == paper::DONE {
-        return write_burst(said, out, at);
+        let next = write_whole(said.whole, out, at);
+        return bench_row::fill(
+            b" n=# codes=#,#,# before=#",
+            &[
+                said.number as u64,
+                said.temperature as u64,
+                said.pressure as u64,
+                said.humidity as u64,
+                said.delivered as u64,
+            ],
+            out,
+            next,
+        );
     }
     bench_page::write_decimal(said.answer as u64, out, at)
-}
-
-// Writes what a burst showed.
-fn write_burst(said: Said, out: &mut [u8], at: usize) -> usize
-    ensures { λ r. ⌜ (now (out .exit), r) ≡ (now (out .entry), at) ▹ text.burst said ⌝ }
-{
-    let next = write_whole(said.whole, out, at);
-    bench_row::fill(
-        b" n=# codes=#,#,# before=#",
-        &[
-            said.number as u64,
-            said.temperature as u64,
-            said.pressure as u64,
-            said.humidity as u64,
-            said.delivered as u64,
-        ],
-        out,
-        next,
-    )
 }
 
 // Writes whether a burst was whole.
@@ -103,13 +90,6 @@ fn write_left(said: Said, length: usize, out: &mut [u8], at: usize) -> usize
         let bytes = said.bytes;
         return bench_row::write_buffer(&bytes, out, at);
     }
-    write_lent(length, out, at)
-}
-
-// Writes a lent buffer as it was lent.
-fn write_lent(length: usize, out: &mut [u8], at: usize) -> usize
-    ensures { λ r. ⌜ (now (out .exit), r) ≡ (now (out .entry), at) ▹ buffer (lentOf length) ⌝ }
-{
     let lent = bench_lent::filled();
     let n = bench_lent::within(length);
     bench_row::write_buffer(&lent[..n], out, at)

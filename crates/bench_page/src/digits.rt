@@ -2,7 +2,6 @@
 ghost use mathlib.Core.Path.{_≡_};
 ghost use Prim.Native.Nat.{_<_};
 ghost use lib.IntN.{natAbs};
-ghost use lib.Signed.{mag};
 ghost use Rattle.bench_page.specs.Digits as spelt;
 
 pub const MINUS: u8 = b'-';
@@ -15,22 +14,15 @@ pub(crate) fn hex(n: u8) -> u8
     if n < 10 { 48 + n } else { 55 + n }
 }
 
-// A signed number of 32 bits as one of 64.
-pub fn widen(z: i32) -> i64
-    ensures { λ r. ⌜ (r ≡ z) × (mag r < 0x80000000) ⌝ }
-{
-    z as i64
-}
-
-// How far from zero a signed number of 32 bits lies.
-pub(crate) fn magnitude(z: i64) -> u64
-    requires { ⌜ mag z < 0x80000000 ⌝ }
+// How far from zero a signed number lies.
+pub fn magnitude(z: i32) -> u64
     ensures { λ r. ⌜ r ≡ natAbs z ⌝ }
 {
-    if z < 0 {
-        return (0 - z) as u64;
+    let wide = z as i64;
+    if wide < 0 {
+        return (0 - wide) as u64;
     }
-    z as u64
+    wide as u64
 }
 
 // The last decimal digit of a number, as a character.

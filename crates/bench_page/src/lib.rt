@@ -46,18 +46,11 @@ pub fn write_decimal(n: u64, out: &mut [u8], at: usize) -> usize
 pub fn write_signed(z: i32, out: &mut [u8], at: usize) -> usize
     ensures { λ r. ⌜ (now (out .exit), r) ≡ (now (out .entry), at) ▹ spelt.signed z ⌝ }
 {
-    let next = write_sign(z, out, at);
-    write_decimal(digits::magnitude(digits::widen(z)), out, next)
-}
-
-// Writes the minus of a negative number, and nothing for any other.
-fn write_sign(z: i32, out: &mut [u8], at: usize) -> usize
-    ensures { λ r. ⌜ (now (out .exit), r) ≡ (now (out .entry), at) ▹ spelt.sign z ⌝ }
-{
     if z < 0 {
-        return write_byte(digits::MINUS, out, at);
+        let next = write_byte(digits::MINUS, out, at);
+        return write_decimal(digits::magnitude(z), out, next);
     }
-    at
+    write_decimal(digits::magnitude(z), out, at)
 }
 
 // Writes a byte as two hex digits, in upper case.

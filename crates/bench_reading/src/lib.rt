@@ -1,5 +1,6 @@
 // What a chip's bytes say: the words of its blocks, and a reading.
 ghost use mathlib.Core.Path.{_≡_};
+ghost use mathlib.Core.List.{[], _∷_};
 ghost use Rattle.bench_page.specs.Page.{_▹_};
 ghost use Rattle.bench_reading.specs.Reading as text;
 use compensation::Answer;
@@ -40,7 +41,7 @@ fn write_answer(answer: Answer, out: &mut [u8], at: usize) -> usize
     }
 }
 
-// Writes the three channels, after the number that says there is a reading.
+// Writes the three channels of a reading.
 fn write_reading(reading: Reading, out: &mut [u8], at: usize) -> usize
     ensures { λ r. ⌜ (now (out .exit), r) ≡ (now (out .entry), at) ▹ text.reading reading ⌝ }
 {
@@ -48,17 +49,18 @@ fn write_reading(reading: Reading, out: &mut [u8], at: usize) -> usize
     let p = reading.pressure;
     let h = reading.humidity;
     let a = write_temperature(t, out, at);
-    let b = write_pressure(p, out, a);
-    write_humidity(h, out, b)
+    let b = write_channel(b'p', p, out, a);
+    write_channel(b'h', h, out, b)
 }
 
-// Writes a temperature with its fine temperature, or the number in their place.
+// Writes the number that says there is a reading, and a temperature with its fine temperature, or the number in their place.
 fn write_temperature(channel: TemperatureAnswer, out: &mut [u8], at: usize) -> usize
     ensures { λ r. ⌜ (now (out .exit), r) ≡ (now (out .entry), at) ▹ text.temperature channel ⌝ }
 {
+    let next = bench_page::write_decimal(paper::DONE as u64, out, at);
     match channel {
-        TemperatureAnswer::Known { value, fine } => write_known(value, fine, out, at),
-        TemperatureAnswer::Missing(missing) => write_missing(missing.number, out, at),
+        TemperatureAnswer::Known { value, fine } => write_known(value, fine, out, next),
+        TemperatureAnswer::Missing(m) => write_number(b't', b'!', m.number as u64, out, next),
     }
 }
 
@@ -66,39 +68,22 @@ fn write_temperature(channel: TemperatureAnswer, out: &mut [u8], at: usize) -> u
 fn write_known(value: i32, fine: i32, out: &mut [u8], at: usize) -> usize
     ensures { λ r. ⌜ (now (out .exit), r) ≡ (now (out .entry), at) ▹ text.known value fine ⌝ }
 {
-    bench_row::fill_signed(b"# t=# fine=#", &[paper::DONE as i32, value, fine], out, at)
+    bench_row::fill_signed(b" t=# fine=#", &[value, fine], out, at)
 }
 
-// Writes the number in a temperature's place.
-fn write_missing(number: u8, out: &mut [u8], at: usize) -> usize
-    ensures { λ r. ⌜ (now (out .exit), r) ≡ (now (out .entry), at) ▹ text.missing number ⌝ }
-{
-    bench_row::fill(b"# t!#", &[paper::DONE as u64, number as u64], out, at)
-}
-
-// Writes a pressure, or the number in its place.
-fn write_pressure(channel: ChannelAnswer, out: &mut [u8], at: usize) -> usize
-    ensures { λ r. ⌜ (now (out .exit), r) ≡ (now (out .entry), at) ▹ text.pressure channel ⌝ }
+// Writes a pressure or a humidity after its letter, or the number in its place.
+fn write_channel(letter: u8, channel: ChannelAnswer, out: &mut [u8], at: usize) -> usize
+    ensures { λ r. ⌜ (now (out .exit), r) ≡ (now (out .entry), at) ▹ text.channel (letter ∷ []) channel ⌝ }
 {
     match channel {
-        ChannelAnswer::Known(value) => write_number(b" p=#", value as u64, out, at),
-        ChannelAnswer::Missing(missing) => write_number(b" p!#", missing.number as u64, out, at),
+        ChannelAnswer::Known(value) => write_number(letter, b'=', value as u64, out, at),
+        ChannelAnswer::Missing(m) => write_number(letter, b'!', m.number as u64, out, at),
     }
 }
 
-// Writes a humidity, or the number in its place.
-fn write_humidity(channel: ChannelAnswer, out: &mut [u8], at: usize) -> usize
-    ensures { λ r. ⌜ (now (out .exit), r) ≡ (now (out .entry), at) ▹ text.humidity channel ⌝ }
+// Writes a number after a letter, with the mark that says whether it is a value.
+fn write_number(letter: u8, mark: u8, n: u64, out: &mut [u8], at: usize) -> usize
+    ensures { λ r. ⌜ (now (out .exit), r) ≡ (now (out .entry), at) ▹ text.one (letter ∷ []) (mark ∷ []) n ⌝ }
 {
-    match channel {
-        ChannelAnswer::Known(value) => write_number(b" h=#", value as u64, out, at),
-        ChannelAnswer::Missing(missing) => write_number(b" h!#", missing.number as u64, out, at),
-    }
-}
-
-// Writes a form that has one number.
-fn write_number(form: &[u8], n: u64, out: &mut [u8], at: usize) -> usize
-    ensures { λ r. ⌜ (now (out .exit), r) ≡ (now (out .entry), at) ▹ text.one (now (form .entry)) n ⌝ }
-{
-    bench_row::fill(form, &[n], out, at)
+    bench_row::fill(&[b' ', letter, mark, b'#'], &[n], out, at)
 }

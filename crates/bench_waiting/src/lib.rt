@@ -1,7 +1,6 @@
 // Waiting times and polls: wait, poll.
 ghost use mathlib.Core.Path.{_≡_};
 ghost use Rattle.bench_page.specs.Page.{_▹_};
-ghost use Rattle.paper.specs.Numbers.{done, neverReady};
 ghost use Rattle.waiting.specs.Waiting.{maximum, typical, waited, waitAnswer};
 ghost use Rattle.waiting.specs.Polling.{polled, pollAnswer};
 ghost use Rattle.bench_waiting.specs.Times as times;
@@ -35,16 +34,9 @@ fn write_wait(wait: Wait, out: &mut [u8], at: usize) -> usize
     ensures { λ r. ⌜ (now (out .exit), r) ≡ (now (out .entry), at) ▹ times.wait (waitAnswer wait) ⌝ }
 {
     match wait {
-        Wait::Microseconds(n) => write_microseconds(n, out, at),
+        Wait::Microseconds(n) => bench_row::fill(b"# #", &[paper::DONE as u64, n as u64], out, at),
         Wait::Refused(number) => bench_page::write_decimal(number as u64, out, at),
     }
-}
-
-// Writes microseconds.
-fn write_microseconds(n: u32, out: &mut [u8], at: usize) -> usize
-    ensures { λ r. ⌜ (now (out .exit), r) ≡ (now (out .entry), at) ▹ times.microseconds done n ⌝ }
-{
-    bench_row::fill(b"# #", &[paper::DONE as u64, n as u64], out, at)
 }
 
 // Writes a place with the polls made, or the polls made.
@@ -52,31 +44,17 @@ fn write_poll(polled: Polled, out: &mut [u8], at: usize) -> usize
     ensures { λ r. ⌜ (now (out .exit), r) ≡ (now (out .entry), at) ▹ times.poll (pollAnswer polled) ⌝ }
 {
     match polled {
-        Polled::Ready { place, polls } => write_ready(place, polls, out, at),
-        Polled::Never { polls } => write_never(polls, out, at),
+        Polled::Ready { place, polls } => bench_row::fill(
+            b"# place=# polls=#",
+            &[paper::DONE as u64, place as u64, polls as u64],
+            out,
+            at,
+        ),
+        Polled::Never { polls } => bench_row::fill(
+            b"# polls=#",
+            &[paper::NEVER_READY as u64, polls as u64],
+            out,
+            at,
+        ),
     }
-}
-
-// Writes a place and the polls made.
-fn write_ready(place: usize, polls: usize, out: &mut [u8], at: usize) -> usize
-    ensures { λ r. ⌜ (now (out .exit), r) ≡ (now (out .entry), at) ▹ times.ready done place polls ⌝ }
-{
-    bench_row::fill(
-        b"# place=# polls=#",
-        &[paper::DONE as u64, place as u64, polls as u64],
-        out,
-        at,
-    )
-}
-
-// Writes the polls made where none was ready.
-fn write_never(polls: usize, out: &mut [u8], at: usize) -> usize
-    ensures { λ r. ⌜ (now (out .exit), r) ≡ (now (out .entry), at) ▹ times.unready neverReady polls ⌝ }
-{
-    bench_row::fill(
-        b"# polls=#",
-        &[paper::NEVER_READY as u64, polls as u64],
-        out,
-        at,
-    )
 }

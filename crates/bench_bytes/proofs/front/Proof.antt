@@ -1,16 +1,9 @@
--- As many bytes as there are, where there are so many.
+-- As many bytes as there are up to the cut.
 use mathlib.Core.Path.{sym}
-use native.Mathlib.Nat.{le-of-lt}
-use lib.Seq.{take-all, length-take-le}
+use lib.Seq.{length-take-le}
 use borrow.Author.Needs.{needs}
 use Rattle.bench_bytes.proofs.front.Statement.{statement}
 use Rattle.bench_bytes.proofs.front.Tie as tie
 
-slice-aggregate-result : tie.Need-slice-aggregate-result
-slice-aggregate-result c = sym (length-take-le _ _ (c .before .if1 .taken))
-
-returns-2 : tie.Need-returns-2
-returns-2 c = sym (take-all _ _ (le-of-lt (c .if1 .left)))
-
 pub front-spec : {M : Type 1} → statement M
-front-spec = tie.close (tie.spec slice-aggregate-result (λ c. search needs) returns-2)
+front-spec = tie.close (tie.spec (λ c κs. tt) (λ c. sym (length-take-le _ _ (c .before .cut .ensures .0))) (λ c. search needs))

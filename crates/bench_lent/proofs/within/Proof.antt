@@ -1,6 +1,6 @@
 -- The smaller of the two.
 use Rattle.bench_lent.specs.Lent.{within}
-use native.Mathlib.Nat.{min-eq-left, min-eq-right, le-of-lt}
+use native.Mathlib.Nat.{min-eq-left, min-eq-right}
 use mathlib.Core.Path.{sym}
 use native.Mathlib.Omega.{arith}
 use Rattle.bench_lent.proofs.within.Statement.{statement}
@@ -8,7 +8,7 @@ use Rattle.bench_lent.proofs.within.Tie as tie
 
 returns : tie.Need-returns
 unfolding within
-returns c = (sym (min-eq-left (le-of-lt (c .if1 .taken))), le-of-lt (c .if1 .taken))
+returns c = (sym (min-eq-left (omega arith)), omega arith)
 
 returns-2 : tie.Need-returns-2
 unfolding within

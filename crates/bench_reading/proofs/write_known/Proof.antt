@@ -11,4 +11,4 @@ returns c =
     rw (c .before .before .fill-signed .ensures, toZ-ofZ (s .fits .value), toZ-ofZ (s .fits .fine))
 
 pub write-known-spec : {M : Type 1} → statement M
-write-known-spec = tie.close (tie.spec (λ c. refl) (λ c. search needs) (λ c. refl) (λ c κs. tt) (λ c. search needs) returns)
+write-known-spec = tie.close (tie.spec (λ c. refl) (λ c. refl) (λ c κs. tt) (λ c. search needs) returns)

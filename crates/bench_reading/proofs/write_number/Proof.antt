@@ -8,4 +8,4 @@ returns : tie.Need-returns
 returns c = c .before .before .fill .ensures
 
 pub write-number-spec : {M : Type 1} → statement M
-write-number-spec = tie.close (tie.spec (λ c. refl) (λ c κs. tt) (λ c. search needs) returns)
+write-number-spec = tie.close (tie.spec (λ c. refl) (λ c. refl) (λ c κs. tt) (λ c. search needs) returns)

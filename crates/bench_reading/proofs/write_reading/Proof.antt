@@ -10,7 +10,7 @@ unfolding reading
 returns c =
     let p = c .before .before .before .before .before .before in
     joined _ _ _ (p .before .before .before .before .write-temperature .ensures)
-    (joined _ _ _ (p .write-pressure .ensures) (c .before .before .write-humidity .ensures))
+    (joined _ _ _ (p .write-channel .ensures) (c .before .before .write-channel2 .ensures))
 
 pub write-reading-spec : {M : Type 1} → statement M
 write-reading-spec = tie.close (tie.spec (λ c κs. tt) (λ c κs. tt) (λ c κs. tt) (λ c. search needs) returns)

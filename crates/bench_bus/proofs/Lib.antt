@@ -1,0 +1,2 @@
+-- A law that the three commands cite.
+pub mod Back
