@@ -71,7 +71,9 @@ offset-is c = rw (back (difference (c .before))) at (c .offset .ensures)
 dividend-is : (c : tie.After-dividend) → Gives Bits64 11300000000000000 (dividendLine (c .before .before .before .args .count) (c .before .before .offset .result)) (c .dividend .result)
 dividend-is c = rw (back (offset-is (c .before .before))) at (c .dividend .ensures)
 
-scale-is : (c : tie.After-divisor) → Gives Bits64 1073741824 (scaleLines (c .before .before .args .words) (local (toZ w32 (ofZ w32 (c .before .before .args .fine))) -ℤ pos 128000)) (c .divisor .result)
+scale-is :
+    (c : tie.After-divisor) →
+    Gives Bits64 1073741824 (scaleLines (c .before .before .args .words) (local (toZ w32 (ofZ w32 (c .before .before .args .fine))) -ℤ pos 128000)) (c .divisor .result)
 scale-is c = rw (back (difference (c .before .before))) at (c .divisor .ensures)
 
 divisor-back : (c : tie.After-divisor) → local (c .divisor .result) ≡ c .divisor .result
