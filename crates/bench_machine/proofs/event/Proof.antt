@@ -8,7 +8,8 @@ returns : tie.Need-returns
 unfolding event
 returns c =
     let s = c .before .before .before in
-    rw (c .with .ensures .0, c .with .ensures .1, s .write-said .ensures, s .before .before .shape-of .ensures, s .before .before .before .said-by .ensures, s .before .before .before .before .step .ensures)
+    let d = s .before .before in
+    rw (c .with .ensures .0, c .with .ensures .1, s .write-said .ensures, d .shape-of .ensures, d .before .said-by .ensures, d .before .before .step .ensures)
 
 pub event-spec : {M : Type 1} → statement M
 event-spec = tie.close (tie.spec (λ c κs. tt) (λ c κs. tt) (λ c κs. tt) (λ c κs. tt) (λ c κs. tt) (λ c. search needs) returns)
