@@ -11,8 +11,8 @@ use Rattle.machine.specs.Counts.{tallied}
 use Rattle.bench_page.specs.Page.{Page, _▹_}
 use Rattle.bench_command.specs.declared.Asked.{Asked}
 use Rattle.bench_command.specs.declared.Asked.the-variants as asks
-use Rattle.bench_command.specs.declared.Command.{Command}
-use Rattle.bench_command.specs.declared.Command.the-variants as the
+use Rattle.bench_command.specs.declared.Question.{Question}
+use Rattle.bench_command.specs.declared.Question.the-variants as the
 use Rattle.bench_command.specs.Commands.{asked}
 use Rattle.bench_phrases.specs.Phrases.{refused, ended}
 use Rattle.bench_reading.specs.Reading as reading
@@ -30,29 +30,27 @@ abbrev pub comp : ℕ → ℕ → ℕ → ℕ → ℕ → ℕ → List ℕ → L
 comp one two raw t p h bytes =
     reading.comp (take one bytes) (take two (drop one bytes)) (take raw (drop two (drop one bytes))) t p h
 
--- ---- each command, but for the newline
+-- ---- each question, but for the newline
 
-abbrev pub ran : Command → List ℕ → Machine → Page → Machine × Page
-ran (the.Cal one two) bytes m page = (m, page ▹ cal one two bytes)
-ran (the.Comp one two raw t p h) bytes m page = (m, page ▹ comp one two raw t p h bytes)
-ran (the.WaitMaximum t p h) bytes m page = (m, page ▹ times.wait (waited maximum t p h))
-ran (the.WaitTypical t p h) bytes m page = (m, page ▹ times.wait (waited typical t p h))
-ran (the.Poll allowance status) bytes m page = (m, page ▹ times.poll (polled (take status bytes) allowance))
-ran (the.BusWrite device pairs room) bytes m page = (m, page ▹ message (encodedWrite device (take pairs bytes) (lentOf room)))
-ran (the.BusDecode bus sent room) bytes m page = (m, page ▹ message (decodedWrite bus (take sent bytes) (lentOf room)))
-ran (the.BusRead device register room) bytes m page = (m, page ▹ message (encodedRead device register (lentOf room)))
-ran (the.Fresh conversions) bytes m page = outcomes.fresh conversions page
-ran (the.Event event) bytes m page = outcomes.event m event page
-ran the.Ledger bytes m page = (m, page ▹ outcomes.tally (tallied m))
+abbrev pub replied : Question → List ℕ → List ℕ
+replied (the.Cal one two) bytes = cal one two bytes
+replied (the.Comp one two raw t p h) bytes = comp one two raw t p h bytes
+replied (the.WaitMaximum t p h) bytes = times.wait (waited maximum t p h)
+replied (the.WaitTypical t p h) bytes = times.wait (waited typical t p h)
+replied (the.Poll allowance status) bytes = times.poll (polled (take status bytes) allowance)
+replied (the.BusWrite device pairs room) bytes = message (encodedWrite device (take pairs bytes) (lentOf room))
+replied (the.BusDecode bus sent room) bytes = message (decodedWrite bus (take sent bytes) (lentOf room))
+replied (the.BusRead device register room) bytes = message (encodedRead device register (lentOf room))
 
--- with the newline
-abbrev pub lineEnded : Machine × Page → Machine × Page
-lineEnded done = (done .0, ended (done .1))
+-- ---- what a line asks: each answer has its newline
 
 abbrev pub askedAnswered : Asked → List ℕ → Machine → Page → Machine × Page
 askedAnswered asks.Nothing bytes m page = (m, page)
-askedAnswered (asks.Refused reason) bytes m page = (m, ended (refused reason page))
-askedAnswered (asks.Command c) bytes m page = lineEnded (ran c bytes m page)
+askedAnswered (asks.Refused reason) bytes m page = (m, refused reason page)
+askedAnswered (asks.Question question) bytes m page = (m, ended (page ▹ replied question bytes))
+askedAnswered (asks.Fresh conversions) bytes m page = outcomes.fresh conversions page
+askedAnswered (asks.Event event) bytes m page = outcomes.event m event page
+askedAnswered asks.Ledger bytes m page = (m, page ▹ outcomes.tally (tallied m) ▹ outcomes.newline)
 
 -- ---- a line, read into zeros: two digits make a byte, so that it has at most 2,048
 

@@ -1,14 +1,13 @@
 // The bench's lines: each is read into a command, which is run over the libraries, and its answer is written on a page.
 ghost use mathlib.Core.Path.{_≡_};
 ghost use Rattle.bench_page.specs.Page.{_▹_};
-ghost use Rattle.bench_phrases.specs.Phrases.{refused, ended};
+ghost use Rattle.bench_phrases.specs.Phrases.{ended};
 ghost use Rattle.bench_answer.specs.Answers as answers;
 use bench_bytes::front;
 use bench_bytes::rest;
 use bench_command::Asked;
-use bench_command::Command;
+use bench_command::Question;
 use bench_machine::Answered;
-use bench_numbers::Reason;
 use machine::Machine;
 
 // The most bytes among the words of a line: two digits make one.
@@ -29,59 +28,12 @@ fn answer_asked(asked: Asked, bytes: &[u8], m: Machine, out: &mut [u8], at: usiz
     ensures { λ r. ⌜ (r .machine, (now (out .exit), r .at)) ≡ answers.askedAnswered asked (now (bytes .entry)) m (now (out .entry), at) ⌝ }
 {
     match asked {
-        Asked::Nothing => stay(m, at),
-        Asked::Refused(reason) => stay(m, refuse(reason, out, at)),
-        Asked::Command(command) => end(run(command, bytes, m, out, at), out),
-    }
-}
-
-// Writes why a line is refused, and a newline.
-fn refuse(reason: Reason, out: &mut [u8], at: usize) -> usize
-    ensures { λ r. ⌜ (now (out .exit), r) ≡ ended (refused reason (now (out .entry), at)) ⌝ }
-{
-    let next = bench_phrases::refuse(reason, out, at);
-    bench_phrases::end(out, next)
-}
-
-// Writes a newline after an answer.
-fn end(done: Answered, out: &mut [u8]) -> Answered
-    ensures { λ r. ⌜ (r .machine, (now (out .exit), r .at)) ≡ answers.lineEnded (done .machine, (now (out .entry), done .at)) ⌝ }
-{
-    let machine = done.machine;
-    stay(machine, bench_phrases::end(out, done.at))
-}
-
-// Answers a command, but for the newline.
-fn run(command: Command, bytes: &[u8], m: Machine, out: &mut [u8], at: usize) -> Answered
-    ensures { λ r. ⌜ (r .machine, (now (out .exit), r .at)) ≡ answers.ran command (now (bytes .entry)) m (now (out .entry), at) ⌝ }
-{
-    match command {
-        Command::Event(event) => bench_machine::event(m, event, out, at),
-        Command::Fresh(conversions) => bench_machine::fresh(conversions, out, at),
-        Command::Ledger => stay(m, bench_machine::ledger(m, out, at)),
-        Command::Cal(one, two) => stay(m, cal(one, two, bytes, out, at)),
-        Command::Comp(one, two, raw, t, p, h) => stay(
-            m,
-            comp(one, two, raw, t, p, h, bytes, out, at),
-        ),
-        Command::WaitMaximum(t, p, h) => stay(m, bench_waiting::wait_maximum(t, p, h, out, at)),
-        Command::WaitTypical(t, p, h) => stay(m, bench_waiting::wait_typical(t, p, h, out, at)),
-        Command::Poll(allowance, status) => stay(
-            m,
-            bench_waiting::poll(front(bytes, status), allowance, out, at),
-        ),
-        Command::BusWrite(device, pairs, room) => stay(
-            m,
-            bench_bus::write(device, front(bytes, pairs), room, out, at),
-        ),
-        Command::BusDecode(bus, message, room) => stay(
-            m,
-            bench_bus::decode(bus, front(bytes, message), room, out, at),
-        ),
-        Command::BusRead(device, register, room) => stay(
-            m,
-            bench_bus::read(device, register, room, out, at),
-        ),
+        Asked::Nothing => return stay(m, at),
+        Asked::Refused(reason) => return stay(m, bench_phrases::refuse(reason, out, at)),
+        Asked::Question(question) => return stay(m, reply(question, bytes, out, at)),
+        Asked::Fresh(n) => return bench_machine::fresh(n, out, at),
+        Asked::Event(event) => return bench_machine::event(m, event, out, at),
+        Asked::Ledger => return stay(m, bench_machine::ledger(m, out, at)),
     }
 }
 
@@ -90,6 +42,53 @@ fn stay(m: Machine, at: usize) -> Answered
     ensures { λ r. ⌜ (r .machine ≡ m) × (r .at ≡ at) ⌝ }
 {
     Answered { machine: m, at }
+}
+
+// Answers a question, and writes a newline.
+fn reply(question: Question, bytes: &[u8], out: &mut [u8], at: usize) -> usize
+    ensures { λ r. ⌜ (now (out .exit), r) ≡ ended ((now (out .entry), at) ▹ answers.replied question (now (bytes .entry))) ⌝ }
+{
+    let next = write_reply(question, bytes, out, at);
+    bench_phrases::end(out, next)
+}
+
+// Answers a question, but for the newline.
+fn write_reply(question: Question, bytes: &[u8], out: &mut [u8], at: usize) -> usize
+    ensures { λ r. ⌜ (now (out .exit), r) ≡ (now (out .entry), at) ▹ answers.replied question (now (bytes .entry)) ⌝ }
+{
+    match question {
+        Question::Cal(one, two) => cal(one, two, bytes, out, at),
+        Question::Comp(one, two, raw, t, p, h) => comp(one, two, raw, t, p, h, bytes, out, at),
+        Question::WaitMaximum(t, p, h) => bench_waiting::wait_maximum(t, p, h, out, at),
+        Question::WaitTypical(t, p, h) => bench_waiting::wait_typical(t, p, h, out, at),
+        Question::Poll(allowance, status) => bench_waiting::poll(
+            front(bytes, status),
+            allowance,
+            out,
+            at,
+        ),
+        Question::BusWrite(device, pairs, room) => bench_bus::write(
+            device,
+            front(bytes, pairs),
+            room,
+            out,
+            at,
+        ),
+        Question::BusDecode(bus, message, room) => bench_bus::decode(
+            bus,
+            front(bytes, message),
+            room,
+            out,
+            at,
+        ),
+        Question::BusRead(device, register, room) => bench_bus::read(
+            device,
+            register,
+            room,
+            out,
+            at,
+        ),
+    }
 }
 
 // The words of two blocks, which are laid one after the other.

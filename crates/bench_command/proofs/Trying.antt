@@ -6,8 +6,8 @@ use mathlib.Core.List.{List, [], _∷_}
 use mathlib.Core.Path.{_≡_, refl, sym, ap, _∙_}
 use lib.ListN.{length, take, drop}
 use lib.Seq.{drop-drop}
-use Rattle.bench_command.specs.declared.Command.{Command}
-use Rattle.bench_command.specs.declared.Command.the-variants as the
+use Rattle.bench_command.specs.declared.Asked.{Asked}
+use Rattle.bench_command.specs.declared.Asked.the-variants as the
 use Rattle.bench_command.specs.Words as words
 use Rattle.bench_command.specs.Table.{Row, row, commands, fits, isOf, askedBy, refused, tried, texts, first, makeAt}
 use Rattle.bench_command.proofs.Splitting.{part, next}

@@ -8,8 +8,8 @@ use Rattle.bench_numbers.specs.Reading as reading
 use Rattle.bus.specs.declared.Bus.the-variants.{I2c, Spi}
 use Rattle.bus.specs.declared.Device.the-variants.{At, Selected}
 use Rattle.machine.specs.declared.Event.the-variants as events
-use Rattle.bench_command.specs.declared.Asked.the-variants.{Nothing, Command, Refused}
-use Rattle.bench_command.specs.declared.Command.the-variants as the
+use Rattle.bench_command.specs.declared.Asked.the-variants.{Nothing, Refused, Question, Fresh, Event, Ledger}
+use Rattle.bench_command.specs.declared.Question.the-variants as the
 use Rattle.bench_command.specs.Words as words
 use Rattle.bench_command.specs.Arguments as arguments
 use Rattle.bench_command.specs.Table as table
@@ -17,23 +17,23 @@ use Rattle.bench_command.specs.Commands.{asked}
 
 -- four bytes are lent, and nothing is written after the last byte read
 pub record Lines : Type 0 where
-  pub cal : asked (letters "cal 0102 03") (9 ∷ 9 ∷ 9 ∷ 9 ∷ []) ≡ (Command (the.Cal 2 1), 1 ∷ 2 ∷ 3 ∷ 9 ∷ [])
-  pub comp : asked (letters "comp 01 - 02 1 7 256") (9 ∷ 9 ∷ 9 ∷ 9 ∷ []) ≡ (Command (the.Comp 1 0 1 1 7 255), 1 ∷ 2 ∷ 9 ∷ 9 ∷ [])
-  pub wait : asked (letters "wait max 5 4 3") [] ≡ (Command (the.WaitMaximum 5 4 3), [])
-  pub wait-typical : asked (letters "wait typ 1 0 0") [] ≡ (Command (the.WaitTypical 1 0 0), [])
-  pub poll : asked (letters "poll 2 080900") (9 ∷ 9 ∷ 9 ∷ 9 ∷ []) ≡ (Command (the.Poll 2 3), 8 ∷ 9 ∷ 0 ∷ 9 ∷ [])
-  pub i2c-write : asked (letters "i2c write 76 F427 3") (9 ∷ 9 ∷ 9 ∷ 9 ∷ []) ≡ (Command (the.BusWrite (At 0x76) 2 3), 0xF4 ∷ 0x27 ∷ 9 ∷ 9 ∷ [])
-  pub i2c-decode : asked (letters "i2c decode ECF427 4") (9 ∷ 9 ∷ 9 ∷ 9 ∷ []) ≡ (Command (the.BusDecode I2c 3 4), 0xEC ∷ 0xF4 ∷ 0x27 ∷ 9 ∷ [])
-  pub i2c-read : asked (letters "i2c read 76 f7 3") [] ≡ (Command (the.BusRead (At 0x76) 0xF7 3), [])
-  pub spi-write : asked (letters "spi write F427 2") (9 ∷ 9 ∷ 9 ∷ 9 ∷ []) ≡ (Command (the.BusWrite Selected 2 2), 0xF4 ∷ 0x27 ∷ 9 ∷ 9 ∷ [])
-  pub spi-decode : asked (letters "spi decode 7427 2") (9 ∷ 9 ∷ 9 ∷ 9 ∷ []) ≡ (Command (the.BusDecode Spi 2 2), 0x74 ∷ 0x27 ∷ 9 ∷ 9 ∷ [])
-  pub spi-read : asked (letters "spi read F7 256") [] ≡ (Command (the.BusRead Selected 0xF7 256), [])
-  pub fresh : asked (letters "fresh") [] ≡ (Command (the.Fresh 0), [])
-  pub fresh-after : asked (letters "fresh 4294967295") [] ≡ (Command (the.Fresh 4294967295), [])
-  pub write : asked (letters "write F4 27") [] ≡ (Command (the.Event (events.Write 0xF4 0x27)), [])
-  pub finish : asked (letters "finish 519888 415148 0") [] ≡ (Command (the.Event (events.Finish 519888 415148 0)), [])
-  pub close : asked (letters "close 8") [] ≡ (Command (the.Event (events.Close 8)), [])
-  pub ledger : asked (letters "ledger") [] ≡ (Command the.Ledger, [])
+  pub cal : asked (letters "cal 0102 03") (9 ∷ 9 ∷ 9 ∷ 9 ∷ []) ≡ (Question (the.Cal 2 1), 1 ∷ 2 ∷ 3 ∷ 9 ∷ [])
+  pub comp : asked (letters "comp 01 - 02 1 7 256") (9 ∷ 9 ∷ 9 ∷ 9 ∷ []) ≡ (Question (the.Comp 1 0 1 1 7 255), 1 ∷ 2 ∷ 9 ∷ 9 ∷ [])
+  pub wait : asked (letters "wait max 5 4 3") [] ≡ (Question (the.WaitMaximum 5 4 3), [])
+  pub wait-typical : asked (letters "wait typ 1 0 0") [] ≡ (Question (the.WaitTypical 1 0 0), [])
+  pub poll : asked (letters "poll 2 080900") (9 ∷ 9 ∷ 9 ∷ 9 ∷ []) ≡ (Question (the.Poll 2 3), 8 ∷ 9 ∷ 0 ∷ 9 ∷ [])
+  pub i2c-write : asked (letters "i2c write 76 F427 3") (9 ∷ 9 ∷ 9 ∷ 9 ∷ []) ≡ (Question (the.BusWrite (At 0x76) 2 3), 0xF4 ∷ 0x27 ∷ 9 ∷ 9 ∷ [])
+  pub i2c-decode : asked (letters "i2c decode ECF427 4") (9 ∷ 9 ∷ 9 ∷ 9 ∷ []) ≡ (Question (the.BusDecode I2c 3 4), 0xEC ∷ 0xF4 ∷ 0x27 ∷ 9 ∷ [])
+  pub i2c-read : asked (letters "i2c read 76 f7 3") [] ≡ (Question (the.BusRead (At 0x76) 0xF7 3), [])
+  pub spi-write : asked (letters "spi write F427 2") (9 ∷ 9 ∷ 9 ∷ 9 ∷ []) ≡ (Question (the.BusWrite Selected 2 2), 0xF4 ∷ 0x27 ∷ 9 ∷ 9 ∷ [])
+  pub spi-decode : asked (letters "spi decode 7427 2") (9 ∷ 9 ∷ 9 ∷ 9 ∷ []) ≡ (Question (the.BusDecode Spi 2 2), 0x74 ∷ 0x27 ∷ 9 ∷ 9 ∷ [])
+  pub spi-read : asked (letters "spi read F7 256") [] ≡ (Question (the.BusRead Selected 0xF7 256), [])
+  pub fresh : asked (letters "fresh") [] ≡ (Fresh 0, [])
+  pub fresh-after : asked (letters "fresh 4294967295") [] ≡ (Fresh 4294967295, [])
+  pub write : asked (letters "write F4 27") [] ≡ (Event (events.Write 0xF4 0x27), [])
+  pub finish : asked (letters "finish 519888 415148 0") [] ≡ (Event (events.Finish 519888 415148 0), [])
+  pub close : asked (letters "close 8") [] ≡ (Event (events.Close 8), [])
+  pub ledger : asked (letters "ledger") [] ≡ (Ledger, [])
   -- reasons, in their order
   pub empty : asked (letters "") [] ≡ (Nothing, [])
   pub spaces-alone : asked (letters "  ") [] ≡ (Refused UnknownWord, [])

@@ -1,4 +1,4 @@
--- The commands, one in a row: its words, a capital for each argument, and the command that the arguments' numbers make.
+-- The commands, one in a row: its words, a capital for each argument, and what it asks by the arguments' numbers.
 -- B stands for bytes, whose number is their length, C for a code, D for a decimal, L for a buffer's length, P for a pair.
 use Prim.Native.Nat.{ℕ, _%_}
 use Prim.Native.String.{String}
@@ -11,8 +11,8 @@ use Rattle.bench_numbers.specs.declared.Reason.the-variants.{UnknownWord, Wrong
 use Rattle.bus.specs.declared.Bus.the-variants.{I2c, Spi}
 use Rattle.bus.specs.declared.Device.the-variants.{At, Selected}
 use Rattle.machine.specs.declared.Event.the-variants as events
-use Rattle.bench_command.specs.declared.Command.{Command}
-use Rattle.bench_command.specs.declared.Command.the-variants as the
+use Rattle.bench_command.specs.declared.Question.{Question}
+use Rattle.bench_command.specs.declared.Question.the-variants as the
 use Rattle.bench_command.specs.declared.Asked.{Asked}
 use Rattle.bench_command.specs.declared.Asked.the-variants as asks
 use Rattle.bench_command.specs.declared.arguments.Outcome.{Outcome}
@@ -23,10 +23,13 @@ use Rattle.bench_command.specs.Arguments.{isArgument, start, walked}
 
 pub record Row : Type 0 where
   pub text : List ℕ
-  pub make : List ℕ → Command
+  pub make : List ℕ → Asked
 
-abbrev pub row : String → (List ℕ → Command) → Row
+abbrev pub row : String → (List ℕ → Asked) → Row
 row text make = record { text = letters text; make = make }
+
+abbrev pub question : String → (List ℕ → Question) → Row
+question text make = row text (λ n. asks.Question (make n))
 
 -- the number at a place; as a byte; as a count
 infixl 60 _at_
@@ -41,28 +44,28 @@ long n k = (n at k) % 4294967296
 
 unfoldable pub commands : List Row
 commands =
-    row "cal B B" (λ n. the.Cal (n at 0) (n at 1))
-    ∷ row "comp B B B C C C" (λ n. the.Comp (n at 0) (n at 1) (n at 2) (octet n 3) (octet n 4) (octet n 5))
-    ∷ row "wait max C C C" (λ n. the.WaitMaximum (octet n 0) (octet n 1) (octet n 2))
-    ∷ row "wait typ C C C" (λ n. the.WaitTypical (octet n 0) (octet n 1) (octet n 2))
-    ∷ row "poll D B" (λ n. the.Poll (n at 0) (n at 1))
-    ∷ row "i2c write P B L" (λ n. the.BusWrite (At (octet n 0)) (n at 1) (n at 2))
-    ∷ row "i2c decode B L" (λ n. the.BusDecode I2c (n at 0) (n at 1))
-    ∷ row "i2c read P P L" (λ n. the.BusRead (At (octet n 0)) (octet n 1) (n at 2))
-    ∷ row "spi write B L" (λ n. the.BusWrite Selected (n at 0) (n at 1))
-    ∷ row "spi decode B L" (λ n. the.BusDecode Spi (n at 0) (n at 1))
-    ∷ row "spi read P L" (λ n. the.BusRead Selected (octet n 0) (n at 1))
-    ∷ row "fresh" (λ n. the.Fresh 0)
-    ∷ row "fresh D" (λ n. the.Fresh (long n 0))
-    ∷ row "power" (λ n. the.Event events.Power)
-    ∷ row "copied" (λ n. the.Event events.Copied)
-    ∷ row "write P P" (λ n. the.Event (events.Write (octet n 0) (octet n 1)))
-    ∷ row "finish D D D" (λ n. the.Event (events.Finish (long n 0) (long n 1) (long n 2)))
-    ∷ row "wake" (λ n. the.Event events.Wake)
-    ∷ row "open P" (λ n. the.Event (events.Open (octet n 0)))
-    ∷ row "byte" (λ n. the.Event events.Byte)
-    ∷ row "close L" (λ n. the.Event (events.Close (n at 0)))
-    ∷ row "ledger" (λ n. the.Ledger)
+    question "cal B B" (λ n. the.Cal (n at 0) (n at 1))
+    ∷ question "comp B B B C C C" (λ n. the.Comp (n at 0) (n at 1) (n at 2) (octet n 3) (octet n 4) (octet n 5))
+    ∷ question "wait max C C C" (λ n. the.WaitMaximum (octet n 0) (octet n 1) (octet n 2))
+    ∷ question "wait typ C C C" (λ n. the.WaitTypical (octet n 0) (octet n 1) (octet n 2))
+    ∷ question "poll D B" (λ n. the.Poll (n at 0) (n at 1))
+    ∷ question "i2c write P B L" (λ n. the.BusWrite (At (octet n 0)) (n at 1) (n at 2))
+    ∷ question "i2c decode B L" (λ n. the.BusDecode I2c (n at 0) (n at 1))
+    ∷ question "i2c read P P L" (λ n. the.BusRead (At (octet n 0)) (octet n 1) (n at 2))
+    ∷ question "spi write B L" (λ n. the.BusWrite Selected (n at 0) (n at 1))
+    ∷ question "spi decode B L" (λ n. the.BusDecode Spi (n at 0) (n at 1))
+    ∷ question "spi read P L" (λ n. the.BusRead Selected (octet n 0) (n at 1))
+    ∷ row "fresh" (λ n. asks.Fresh 0)
+    ∷ row "fresh D" (λ n. asks.Fresh (long n 0))
+    ∷ row "power" (λ n. asks.Event events.Power)
+    ∷ row "copied" (λ n. asks.Event events.Copied)
+    ∷ row "write P P" (λ n. asks.Event (events.Write (octet n 0) (octet n 1)))
+    ∷ row "finish D D D" (λ n. asks.Event (events.Finish (long n 0) (long n 1) (long n 2)))
+    ∷ row "wake" (λ n. asks.Event events.Wake)
+    ∷ row "open P" (λ n. asks.Event (events.Open (octet n 0)))
+    ∷ row "byte" (λ n. asks.Event events.Byte)
+    ∷ row "close L" (λ n. asks.Event (events.Close (n at 0)))
+    ∷ row "ledger" (λ n. asks.Ledger)
     ∷ []
 
 -- ---- a row beside a line
@@ -88,15 +91,15 @@ isOf row line words = cond (fits row line) (eqb (count row) words) false
 
 -- ---- the row that a line is of
 
-abbrev pub madeAs : (List ℕ → Command) → Outcome → List ℕ → Asked
+abbrev pub madeAs : (List ℕ → Asked) → Outcome → List ℕ → Asked
 madeAs make (outcomes.Refused reason) numbers = asks.Refused reason
-madeAs make outcomes.Done numbers = asks.Command (make numbers)
+madeAs make outcomes.Done numbers = make numbers
 
-abbrev pub made : (List ℕ → Command) → Progress → Asked
+abbrev pub made : (List ℕ → Asked) → Progress → Asked
 made make w = madeAs make (w .outcome) (w .numbers)
 
--- the command with the arguments of a line, and what is lent with their bytes
-unfoldable pub askedBy : (List ℕ → Command) → List ℕ → List ℕ → List ℕ → Asked × List ℕ
+-- what a row asks with the arguments of a line, and what is lent with their bytes
+unfoldable pub askedBy : (List ℕ → Asked) → List ℕ → List ℕ → List ℕ → Asked × List ℕ
 askedBy make text line lent = (made make (walked text line (start, lent) .0), walked text line (start, lent) .1)
 
 -- a line of no row has a wrong number of words where its first words name a command, and an unknown word otherwise
@@ -110,15 +113,15 @@ tried (row ∷ rows) line words named lent =
     cond (isOf (row .text) line words) (askedBy (row .make) (row .text) line lent)
     (tried rows line words (named || fits (row .text) line) lent)
 
--- ---- the rows' texts, and the command of a row by its number, the last past the others
+-- ---- the rows' texts, and what a row asks by its number, the last past the others
 
 unfoldable pub texts : List Row → List (List ℕ)
 texts [] = []
 texts (row ∷ rows) = row .text ∷ texts rows
 
-abbrev pub first : List Row → List ℕ → Command
-first [] = λ n. the.Ledger
+abbrev pub first : List Row → List ℕ → Asked
+first [] = λ n. asks.Ledger
 first (row ∷ rows) = row .make
 
-unfoldable pub makeAt : ℕ → List ℕ → Command
+unfoldable pub makeAt : ℕ → List ℕ → Asked
 makeAt number = first (drop number commands)

@@ -56,14 +56,13 @@ fn step(character: u8, line: &[u8], w: Progress, lent: &mut [u8]) -> Progress
     ensures { λ r. ⌜ (r, now (lent .exit)) ≡ arguments.stepped character (now (line .entry)) (w, now (lent .entry)) ⌝ }
 {
     let outcome = w.outcome;
-    match outcome {
-        Outcome::Refused(_) => w,
-        Outcome::Done => if rows::is_argument(character) {
-            taken(bench_numbers::read(character, line, w.at, lent, w.place), w)
-        } else {
-            moved(text::past(line, w.at), w)
-        },
+    if let Outcome::Refused(_) = outcome {
+        return w;
     }
+    if rows::is_argument(character) {
+        return taken(bench_numbers::read(character, line, w.at, lent, w.place), w);
+    }
+    moved(text::past(line, w.at), w)
 }
 
 // At another place of the line.
@@ -87,7 +86,7 @@ fn taken(argument: Argument, w: Progress) -> Progress
 {
     let numbers = w.numbers;
     match argument {
-        Argument::Refused(reason) => Progress {
+        Argument::Refused(reason) => return Progress {
             outcome: Outcome::Refused(reason),
             numbers,
             count: w.count,
@@ -96,13 +95,13 @@ fn taken(argument: Argument, w: Progress) -> Progress
         },
         Argument::Read { number, end, place } => {
             let more = put(numbers, w.count, number);
-            Progress {
+            return Progress {
                 outcome: Outcome::Done,
                 numbers: more,
                 count: next(w.count),
                 at: end,
                 place,
-            }
+            };
         }
     }
 }

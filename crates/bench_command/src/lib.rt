@@ -12,8 +12,8 @@ mod rows;
 mod table;
 mod text;
 
-// Every command of the bench with its values. Bytes are laid one after another where they are lent, and the command has their lengths.
-pub enum Command {
+// What the machine has no part in, with its values. Bytes are laid one after another where they are lent, and the question has their lengths.
+pub enum Question {
     // The lengths of the two blocks.
     Cal(usize, usize),
     // The lengths of the two blocks and of the data, and the three codes.
@@ -28,17 +28,17 @@ pub enum Command {
     BusDecode(Bus, usize, usize),
     // The device, the register, and the length of the lent buffer.
     BusRead(Device, u8, usize),
+}
+
+// What a line asks: nothing where it is empty, nothing that can be answered, a question, or something of the machine.
+pub enum Asked {
+    Nothing,
+    Refused(Reason),
+    Question(Question),
     // The number of conversions that came before.
     Fresh(u32),
     Event(Event),
     Ledger,
-}
-
-// What a line asks: nothing where it is empty, a command, or nothing that can be answered.
-pub enum Asked {
-    Nothing,
-    Refused(Reason),
-    Command(Command),
 }
 
 // The longest line.

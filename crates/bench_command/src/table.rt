@@ -45,8 +45,7 @@ fn refuse(named: bool) -> Asked
     ensures { λ r. ⌜ r ≡ known.refused named ⌝ }
 {
     if named {
-        Asked::Refused(Reason::WrongNumberOfWords)
-    } else {
-        Asked::Refused(Reason::UnknownWord)
+        return Asked::Refused(Reason::WrongNumberOfWords);
     }
+    Asked::Refused(Reason::UnknownWord)
 }

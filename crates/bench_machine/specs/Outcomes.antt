@@ -1,4 +1,4 @@
--- The machine's answers: what each event's answer shows, `fresh` and `ledger`.
+-- The machine's answers, each with its newline: what each event's answer shows, `fresh` and `ledger`.
 use Prim.Native.Nat.{ℕ}
 use mathlib.Core.List.{List}
 use Rattle.paper.specs.Numbers.{done}
@@ -9,12 +9,15 @@ use Rattle.machine.specs.declared.Outcome.{Outcome}
 use Rattle.machine.specs.declared.Tally.{Tally}
 use Rattle.machine.specs.Event.{stepped}
 use Rattle.machine.specs.State.{freshAfter}
-use Rattle.bench_page.specs.Page.{Page, _▹_}
+use Rattle.bench_page.specs.Page.{Page, letters, _▹_}
 use Rattle.bench_page.specs.Digits.{decimal}
 use Rattle.bench_outcome.specs.declared.Said.{Said}
 use Rattle.bench_outcome.specs.declared.Shape.{Shape}
 use Rattle.bench_outcome.specs.declared.Shape.the-variants.{Number, Byte, Close}
 use Rattle.bench_outcome.specs.Outcomes as said'
+
+abbrev pub newline : List ℕ
+newline = letters "\n"
 
 abbrev pub shape : Event → Shape
 shape event'.Power = Number
@@ -40,12 +43,12 @@ said o = record {
 }
 
 unfoldable pub event : Machine → Event → Page → Machine × Page
-event m e p = (stepped m e .machine, p ▹ said'.text (said (stepped m e)) (shape e))
+event m e p = (stepped m e .machine, p ▹ said'.text (said (stepped m e)) (shape e) ▹ newline)
 
 -- ---- fresh, fresh N: `0`
 
 unfoldable pub fresh : ℕ → Page → Machine × Page
-fresh n p = (freshAfter n, p ▹ decimal done)
+fresh n p = (freshAfter n, p ▹ decimal done ▹ newline)
 
 -- ---- ledger
 

@@ -1,13 +1,18 @@
 // The machine's answers: fresh, the eight events, ledger.
 ghost use mathlib.Core.Path.{_≡_};
+ghost use Rattle.paper.specs.Numbers.{done};
 ghost use Rattle.bench_page.specs.Page.{_▹_};
+ghost use Rattle.bench_page.specs.Digits.{decimal};
+ghost use Rattle.bench_outcome.specs.Outcomes as shown;
 ghost use Rattle.machine.specs.Counts.{tallied};
 ghost use Rattle.bench_machine.specs.Outcomes as outcomes;
+ghost use Rattle.bench_machine.specs.Outcomes.{newline};
 use bench_outcome::Said;
 use bench_outcome::Shape;
 use machine::Event;
 use machine::Machine;
 use machine::Outcome;
+use machine::Tally;
 
 // The machine after a command, and the page's next place.
 pub struct Answered {
@@ -15,33 +20,61 @@ pub struct Answered {
     pub at: usize,
 }
 
-// Writes what an event hands back, and gives the machine after it.
+// Writes a line with what an event hands back, and gives the machine after it.
 pub fn event(m: Machine, e: Event, out: &mut [u8], at: usize) -> Answered
     ensures { λ r. ⌜ (r .machine, (now (out .exit), r .at)) ≡ outcomes.event m e (now (out .entry), at) ⌝ }
 {
     let outcome = machine_step::step(m, e);
-    let machine = outcome.machine;
-    Answered {
-        machine,
-        at: bench_outcome::write_said(said_by(outcome), shape_of(e), out, at),
-    }
+    let next = write_said(said_by(outcome), shape_of(e), out, at);
+    with(outcome.machine, next)
 }
 
-// Writes the ledger with the names of what stands.
+// Writes a line with the ledger and the names of what stands.
 pub fn ledger(m: Machine, out: &mut [u8], at: usize) -> usize
-    ensures { λ r. ⌜ (now (out .exit), r) ≡ (now (out .entry), at) ▹ outcomes.tally (tallied m) ⌝ }
+    ensures { λ r. ⌜ (now (out .exit), r) ≡ (now (out .entry), at) ▹ outcomes.tally (tallied m) ▹ newline ⌝ }
 {
-    bench_outcome::write_tally(machine_conversion::tally(m), out, at)
+    write_tally(machine_conversion::tally(m), out, at)
 }
 
-// Gives the fresh machine as after so many conversions, and writes that it is done.
+// Gives the fresh machine as after so many conversions, and writes a line that it is done.
 pub fn fresh(n: u32, out: &mut [u8], at: usize) -> Answered
     ensures { λ r. ⌜ (r .machine, (now (out .exit), r .at)) ≡ outcomes.fresh n (now (out .entry), at) ⌝ }
 {
     Answered {
         machine: machine_start::fresh_after(n),
-        at: bench_page::write_decimal(paper::DONE as u64, out, at),
+        at: write_done(out, at),
     }
+}
+
+// A machine and the page's next place.
+fn with(machine: Machine, at: usize) -> Answered
+    ensures { λ r. ⌜ (r .machine ≡ machine) × (r .at ≡ at) ⌝ }
+{
+    Answered { machine, at }
+}
+
+// Writes a line with what an outcome says.
+fn write_said(said: Said, shape: Shape, out: &mut [u8], at: usize) -> usize
+    ensures { λ r. ⌜ (now (out .exit), r) ≡ (now (out .entry), at) ▹ shown.text said shape ▹ newline ⌝ }
+{
+    let next = bench_outcome::write_said(said, shape, out, at);
+    bench_page::write_text(b"\n", out, next)
+}
+
+// Writes a line with the ledger and the names of what stands.
+fn write_tally(tally: Tally, out: &mut [u8], at: usize) -> usize
+    ensures { λ r. ⌜ (now (out .exit), r) ≡ (now (out .entry), at) ▹ outcomes.tally tally ▹ newline ⌝ }
+{
+    let next = bench_outcome::write_tally(tally, out, at);
+    bench_page::write_text(b"\n", out, next)
+}
+
+// Writes a line that says that something is done.
+fn write_done(out: &mut [u8], at: usize) -> usize
+    ensures { λ r. ⌜ (now (out .exit), r) ≡ (now (out .entry), at) ▹ decimal done ▹ newline ⌝ }
+{
+    let next = bench_page::write_decimal(paper::DONE as u64, out, at);
+    bench_page::write_text(b"\n", out, next)
 }
 
 // What an outcome says beside the machine.

@@ -41,7 +41,7 @@ fn limited(kind: u8, decimal: Number) -> Number
     ensures { λ r. ⌜ r ≡ reading.limited kind decimal ⌝ }
 {
     match decimal {
-        Number::Refused(reason) => Number::Refused(reason),
+        Number::Refused(reason) => return Number::Refused(reason),
         Number::Value(n, end) => {
             if kind == b'C' {
                 return Number::Value(code(n), end);
@@ -52,7 +52,7 @@ fn limited(kind: u8, decimal: Number) -> Number
             if LONGEST_BUFFER < n {
                 return Number::Refused(Reason::TooLong);
             }
-            Number::Value(n, end)
+            return Number::Value(n, end);
         }
     }
 }
@@ -93,12 +93,13 @@ fn read_octet(line: &[u8], from: usize) -> Number
     ensures { λ r. ⌜ r ≡ reading.octet (word (drop from (now (line .entry)))) from ⌝ }
 {
     match pairs::read_pair(line, from) {
-        Pair::Refused(_) => Number::Refused(Reason::NotANumber),
-        Pair::Byte(byte) => if words::ends(line, from + 2) {
-            Number::Value(byte as usize, from + 2)
-        } else {
-            Number::Refused(Reason::NotANumber)
-        },
+        Pair::Refused(_) => return Number::Refused(Reason::NotANumber),
+        Pair::Byte(byte) => {
+            if words::ends(line, from + 2) {
+                return Number::Value(byte as usize, from + 2);
+            }
+            return Number::Refused(Reason::NotANumber);
+        }
     }
 }
 
@@ -107,8 +108,8 @@ pub fn beside(number: Number, place: usize) -> Argument
     ensures { λ r. ⌜ r ≡ reading.beside number place ⌝ }
 {
     match number {
-        Number::Refused(reason) => Argument::Refused(reason),
-        Number::Value(n, end) => Argument::Read {
+        Number::Refused(reason) => return Argument::Refused(reason),
+        Number::Value(n, end) => return Argument::Read {
             number: n,
             end,
             place,

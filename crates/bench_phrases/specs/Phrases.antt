@@ -7,8 +7,8 @@ abbrev pub ended : Page → Page
 ended p = p ▹ letters "\n"
 
 abbrev pub refused : Reason → Page → Page
-refused UnknownWord p = p ▹ letters "? unknown word"
-refused WrongNumberOfWords p = p ▹ letters "? wrong number of words"
-refused NotANumber p = p ▹ letters "? not a number"
-refused OddHex p = p ▹ letters "? odd hex"
-refused TooLong p = p ▹ letters "? too long"
+refused UnknownWord p = p ▹ letters "? unknown word\n"
+refused WrongNumberOfWords p = p ▹ letters "? wrong number of words\n"
+refused NotANumber p = p ▹ letters "? not a number\n"
+refused OddHex p = p ▹ letters "? odd hex\n"
+refused TooLong p = p ▹ letters "? too long\n"

@@ -10,15 +10,15 @@ pub fn end(out: &mut [u8], at: usize) -> usize
     bench_page::write_text(b"\n", out, at)
 }
 
-// Writes why a line is not answered.
+// Writes a line that says why a line is not answered.
 pub fn refuse(reason: Reason, out: &mut [u8], at: usize) -> usize
     ensures { λ r. ⌜ (now (out .exit), r) ≡ phrases.refused reason (now (out .entry), at) ⌝ }
 {
     match reason {
-        Reason::UnknownWord => bench_page::write_text(b"? unknown word", out, at),
-        Reason::WrongNumberOfWords => bench_page::write_text(b"? wrong number of words", out, at),
-        Reason::NotANumber => bench_page::write_text(b"? not a number", out, at),
-        Reason::OddHex => bench_page::write_text(b"? odd hex", out, at),
-        Reason::TooLong => bench_page::write_text(b"? too long", out, at),
+        Reason::UnknownWord => bench_page::write_text(b"? unknown word\n", out, at),
+        Reason::WrongNumberOfWords => bench_page::write_text(b"? wrong number of words\n", out, at),
+        Reason::NotANumber => bench_page::write_text(b"? not a number\n", out, at),
+        Reason::OddHex => bench_page::write_text(b"? odd hex\n", out, at),
+        Reason::TooLong => bench_page::write_text(b"? too long\n", out, at),
     }
 }

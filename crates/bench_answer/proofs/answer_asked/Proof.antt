@@ -10,24 +10,44 @@ returns-2 : tie.Need-returns-2
 returns-2 c = rw (c .before .before .before .before .before .before .asked .given .1, c .stay2 .ensures .0, c .stay2 .ensures .1, c .before .before .before .refuse .ensures)
 
 returns-3 : tie.Need-returns-3
-returns-3 c =
-    let d = c .before .before .before .before .before .before in
-    rw (d .before .before .before .asked2 .given .1, c .before .before .end .ensures, ← d .run .ensures)
+returns-3 c = rw (c .before .before .before .before .before .before .asked2 .given .1, c .stay3 .ensures .0, c .stay3 .ensures .1, c .before .before .before .reply .ensures)
+
+returns-4 : tie.Need-returns-4
+returns-4 c = rw (c .before .before .before .before .before .asked3 .given .1) (c .before .before .fresh .ensures)
+
+returns-5 : tie.Need-returns-5
+returns-5 c = rw (c .before .before .before .before .before .asked4 .given .1) (c .before .before .event .ensures)
+
+returns-6 : tie.Need-returns-6
+returns-6 c = rw (c .before .before .before .before .before .enum-told2 .given .1, c .stay4 .ensures .0, c .stay4 .ensures .1, c .before .before .before .ledger .ensures)
 
 pub answer-asked-spec : {M : Type 1} → statement M
 answer-asked-spec =
     tie.close
     (tie.spec
     (λ c. search needs)
-    (λ c κs. search needs)
-    (λ c. search needs)
-    (λ c κs. search needs)
-    (λ c κs. search needs)
-    (λ c. search needs)
-    (λ c κs. search needs)
-    (λ c κs. search needs)
+    (λ c κs. tt)
     returns
+    (λ c. search needs)
+    (λ c κs. tt)
+    (λ c κs. tt)
     (λ c. search needs)
     returns-2
     (λ c. search needs)
-    returns-3)
+    (λ c κs. tt)
+    (λ c κs. tt)
+    (λ c. search needs)
+    returns-3
+    (λ c. search needs)
+    (λ c κs. tt)
+    (λ c. search needs)
+    returns-4
+    (λ c. search needs)
+    (λ c κs. tt)
+    (λ c. search needs)
+    returns-5
+    (λ c. search needs)
+    (λ c κs. tt)
+    (λ c κs. tt)
+    (λ c. search needs)
+    returns-6)

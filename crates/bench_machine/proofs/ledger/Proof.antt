@@ -1,4 +1,4 @@
--- The tally, and then its text.
+-- The tally, and then its line.
 use borrow.Author.Needs.{needs}
 use Rattle.bench_machine.proofs.ledger.Statement.{statement}
 use Rattle.bench_machine.proofs.ledger.Tie as tie

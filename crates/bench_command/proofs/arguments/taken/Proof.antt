@@ -14,8 +14,8 @@ taken-spec =
     tie.close
     (tie.spec
     (λ c. search needs)
+    returns
     (λ c. search needs)
     (λ c κs. search needs)
     (λ c κs. search needs)
-    returns
     returns-2)

@@ -10,4 +10,11 @@ returns-2 : tie.Need-returns-2
 returns-2 c = rw (c .before .enum-told .given .1, c .command .ensures)
 
 pub asked-spec : {M : Type 1} → statement M
-asked-spec = tie.close (tie.spec (λ c. search needs) (λ c. search needs) (λ c κs. search needs) returns returns-2)
+asked-spec =
+    tie.close
+    (tie.spec
+    (λ c. search needs)
+    returns
+    (λ c. search needs)
+    (λ c κs. search needs)
+    returns-2)

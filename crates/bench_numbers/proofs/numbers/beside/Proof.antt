@@ -10,4 +10,4 @@ returns-2 : tie.Need-returns-2
 returns-2 c = rw (c .before .number2 .given .1)
 
 pub beside-spec : {M : Type 1} → statement M
-beside-spec = tie.close (tie.spec (λ c. search needs) (λ c. search needs) returns returns-2)
+beside-spec = tie.close (tie.spec (λ c. search needs) returns (λ c. search needs) returns-2)

@@ -14,8 +14,8 @@ add-ends c =
     let w = two (b .before .before .args .line .now) (b .before .before .args .from) _ (sym (b .read-pair .ensures) ∙ c .before .byte .given .1) in
     omega (arith, w .within)
 
-add-t11 : tie.Need-add-t11
-add-t11 c =
+add-t9 : tie.Need-add-t9
+add-t9 c =
     let b = c .before .before .before .before .before in
     let w = two (b .before .before .args .line .now) (b .before .before .args .from) _ (sym (b .read-pair .ensures) ∙ c .before .before .before .byte .given .1) in
     omega (arith, w .within)
@@ -44,11 +44,11 @@ read-octet-spec =
     (tie.spec
     (λ c κs. search needs)
     (λ c. search needs)
+    returns
     (λ c. search needs)
     add-ends
     (λ c κs. search needs)
     (λ c. search needs)
-    add-t11
-    returns
+    add-t9
     returns-2
     returns-3)

@@ -1,0 +1,62 @@
+-- The rows by their numbers.
+use Rattle.bench_command.specs.Table.{commands, makeAt}
+use borrow.Author.Needs.{needs}
+use Rattle.bench_command.proofs.commands.question.Statement.{statement}
+use Rattle.bench_command.proofs.commands.question.Tie as tie
+
+returns : tie.Need-returns
+unfolding commands makeAt
+returns c = rw (c .if1 .taken)
+
+returns-2 : tie.Need-returns-2
+unfolding commands makeAt
+returns-2 c = rw (c .before .before .before .if2 .taken, c .octet3 .ensures, c .before .octet2 .ensures, c .before .before .octet .ensures)
+
+returns-3 : tie.Need-returns-3
+unfolding commands makeAt
+returns-3 c = rw (c .before .before .before .if3 .taken, c .octet6 .ensures, c .before .octet5 .ensures, c .before .before .octet4 .ensures)
+
+returns-4 : tie.Need-returns-4
+unfolding commands makeAt
+returns-4 c = rw (c .before .before .before .if4 .taken, c .octet9 .ensures, c .before .octet8 .ensures, c .before .before .octet7 .ensures)
+
+returns-5 : tie.Need-returns-5
+unfolding commands makeAt
+returns-5 c = rw (c .if5 .taken)
+
+pub question-spec : {M : Type 1} → statement M
+question-spec =
+    tie.close
+    (tie.spec
+    (λ c. search needs)
+    (λ c. search needs)
+    returns
+    (λ c. search needs)
+    (λ c. search needs)
+    (λ c. search needs)
+    (λ c. search needs)
+    (λ c κs. search needs)
+    (λ c. search needs)
+    (λ c κs. search needs)
+    (λ c. search needs)
+    (λ c κs. search needs)
+    returns-2
+    (λ c. search needs)
+    (λ c κs. search needs)
+    (λ c. search needs)
+    (λ c κs. search needs)
+    (λ c. search needs)
+    (λ c κs. search needs)
+    returns-3
+    (λ c. search needs)
+    (λ c κs. search needs)
+    (λ c. search needs)
+    (λ c κs. search needs)
+    (λ c. search needs)
+    (λ c κs. search needs)
+    returns-4
+    (λ c. search needs)
+    (λ c. search needs)
+    returns-5
+    (λ c κs. search needs)
+    (λ c. search needs))
