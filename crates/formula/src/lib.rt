@@ -4,7 +4,7 @@ ghost use mathlib.Core.Path.{_≡_};
 ghost use lib.IntN.{pos};
 ghost use Rattle.steps.specs.Work.{run, given, num, _-_};
 ghost use mathlib.Core.Bool.{true};
-ghost use Rattle.formula.specs.Plain.{isUsual, plainly, plainTemperature};
+ghost use Rattle.formula.specs.Plain.{isUsual, channelPlainly, temperaturePlainly};
 use steps::Num;
 use steps::Signed;
 use steps::subtract;
@@ -42,7 +42,7 @@ pub struct PlainTemperature {
 // What a plain road gives that ends in an answer.
 // It is taken where the answer is a value.
 pub fn take(answer: ChannelAnswer) -> PlainChannel
-    ensures { λ r. ⌜ r ≡ plainly true answer ⌝ }
+    ensures { λ r. ⌜ r ≡ channelPlainly true answer ⌝ }
 {
     match answer {
         ChannelAnswer::Known(value) => PlainChannel { taken: true, value },
@@ -56,7 +56,7 @@ pub fn take(answer: ChannelAnswer) -> PlainChannel
 // The same of a temperature.
 // It is taken where the answer is the two values.
 pub fn take_temperature(answer: TemperatureAnswer) -> PlainTemperature
-    ensures { λ r. ⌜ r ≡ plainTemperature true answer ⌝ }
+    ensures { λ r. ⌜ r ≡ temperaturePlainly true answer ⌝ }
 {
     match answer {
         TemperatureAnswer::Known { value, fine } => PlainTemperature {

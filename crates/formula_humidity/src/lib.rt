@@ -3,7 +3,7 @@
 // test, where a guard on what comes in proves that no step can leave its type. Real air takes the plain road.
 ghost use mathlib.Core.Path.{_≡_};
 ghost use Rattle.formula.specs.Answers.{channelAnswer};
-ghost use Rattle.formula.specs.Plain.{plainly};
+ghost use Rattle.formula.specs.Plain.{channelPlainly};
 ghost use Rattle.formula_humidity.specs.Plain.{isTaken};
 ghost use Rattle.formula_humidity.specs.Humidity.{humidityOf};
 
@@ -31,7 +31,7 @@ pub fn humidity(words: HumidityWords, fine: i32, count: u32) -> ChannelAnswer
 // What the plain road gives of a count.
 // It is taken where what comes in is usual and the product is small.
 pub fn humidity_plainly(words: HumidityWords, fine: i32, count: u32) -> PlainChannel
-    ensures { λ r. ⌜ r ≡ plainly (isTaken words fine count) (humidityOf words fine count) ⌝ }
+    ensures { λ r. ⌜ r ≡ channelPlainly (isTaken words fine count) (humidityOf words fine count) ⌝ }
 {
     if guards::is_plain(words, fine, count) {
         return plain::humidity(words, fine, count);

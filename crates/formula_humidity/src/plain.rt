@@ -3,7 +3,7 @@ ghost use mathlib.Core.Path.{_≡_};
 ghost use Prim.Native.Nat.{_≤_};
 ghost use lib.IntN.{natAbs};
 ghost use Rattle.steps.specs.declared.Signed.the-variants.{Bits32};
-ghost use Rattle.formula.specs.Plain.{Gives, plainly};
+ghost use Rattle.formula.specs.Plain.{Gives, channelPlainly};
 ghost use Rattle.formula_humidity.specs.Plain.{SmallWords, Plain, Small, multiplies};
 ghost use Rattle.formula_humidity.specs.Humidity.{levelFactor, bendFactor, gainFactor, correctionLine, humidityOf};
 use super::guards;
@@ -55,7 +55,7 @@ fn correct(words: HumidityWords, v: i64) -> i64
 // The road ends where the product is not small.
 pub(crate) fn humidity(words: HumidityWords, fine: i32, count: u32) -> PlainChannel
     requires { ⌜ Plain words fine count ⌝ }
-    ensures { λ r. ⌜ r ≡ plainly (multiplies words fine count) (humidityOf words fine count) ⌝ }
+    ensures { λ r. ⌜ r ≡ channelPlainly (multiplies words fine count) (humidityOf words fine count) ⌝ }
 {
     let difference = fine as i64 - 76800;
     let product = level(words, count, difference) * gain(words, difference);

@@ -3,7 +3,7 @@
 // test, where a guard on what comes in proves that no step can leave its type. Real air takes the plain road.
 ghost use mathlib.Core.Path.{_≡_};
 ghost use Rattle.formula.specs.Answers.{channelAnswer};
-ghost use Rattle.formula.specs.Plain.{plainly};
+ghost use Rattle.formula.specs.Plain.{channelPlainly};
 ghost use Rattle.formula_pressure.specs.Plain.{isTaken};
 ghost use Rattle.formula_pressure.specs.Pressure.{pressureOf};
 
@@ -31,7 +31,7 @@ pub fn pressure(words: PressureWords, fine: i32, count: u32) -> ChannelAnswer
 // What the plain road gives of a count.
 // It is taken where what comes in, the dividend and the divisor are usual, and the pressure lies from 0 to 4294967295.
 pub fn pressure_plainly(words: PressureWords, fine: i32, count: u32) -> PlainChannel
-    ensures { λ r. ⌜ r ≡ plainly (isTaken words fine count) (pressureOf words fine count) ⌝ }
+    ensures { λ r. ⌜ r ≡ channelPlainly (isTaken words fine count) (pressureOf words fine count) ⌝ }
 {
     if guards::is_plain(words.p1, fine, count) {
         return plain::pressure(words, fine, count);

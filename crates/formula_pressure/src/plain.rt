@@ -3,7 +3,7 @@ ghost use mathlib.Core.Path.{_≡_};
 ghost use Prim.Native.Nat.{_≤_};
 ghost use lib.IntN.{natAbs};
 ghost use Rattle.steps.specs.declared.Signed.the-variants.{Bits64};
-ghost use Rattle.formula.specs.Plain.{Gives, plainly};
+ghost use Rattle.formula.specs.Plain.{Gives, channelPlainly};
 ghost use Rattle.formula_pressure.specs.Plain.{Plain, Dividing, dividendLine, divisionLine, divides};
 ghost use Rattle.formula_pressure.specs.Pressure.{offsetLines, scaleLines, refinedLines, pressureOf};
 use super::guards;
@@ -68,7 +68,7 @@ fn refine(words: PressureWords, p: i64) -> i64
 // The road ends before a division whose quotient may not be small.
 pub(crate) fn pressure(words: PressureWords, fine: i32, count: u32) -> PlainChannel
     requires { ⌜ Plain (words .p1) fine count ⌝ }
-    ensures { λ r. ⌜ r ≡ plainly (divides words fine count) (pressureOf words fine count) ⌝ }
+    ensures { λ r. ⌜ r ≡ channelPlainly (divides words fine count) (pressureOf words fine count) ⌝ }
 {
     let difference = fine as i64 - 128000;
     let var2 = offset(words, difference);

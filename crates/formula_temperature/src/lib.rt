@@ -3,7 +3,7 @@
 // test, where a guard on what comes in proves that no step can leave its type. Real air takes the plain road.
 ghost use mathlib.Core.Path.{_≡_};
 ghost use Rattle.formula.specs.Answers.{temperatureAnswer};
-ghost use Rattle.formula.specs.Plain.{plainTemperature};
+ghost use Rattle.formula.specs.Plain.{temperaturePlainly};
 ghost use Rattle.formula_temperature.specs.Plain.{isNear};
 ghost use Rattle.formula_temperature.specs.Temperature.{temperatureOf};
 
@@ -35,7 +35,7 @@ pub fn temperature(words: TemperatureWords, count: u32) -> TemperatureAnswer
 // What the plain road gives of a count.
 // It is taken where the count is near T1.
 pub fn temperature_plainly(words: TemperatureWords, count: u32) -> PlainTemperature
-    ensures { λ r. ⌜ r ≡ plainTemperature (isNear (words .t1) count) (temperatureOf words count) ⌝ }
+    ensures { λ r. ⌜ r ≡ temperaturePlainly (isNear (words .t1) count) (temperatureOf words count) ⌝ }
 {
     if guards::is_near(words.t1, count) {
         return take_temperature(plain::temperature(words, count));

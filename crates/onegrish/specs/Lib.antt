@@ -1,3 +1,2 @@
 -- What the library hands to C.
 pub mod Lent
-pub mod Version

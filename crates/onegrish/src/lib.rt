@@ -11,15 +11,12 @@ ghost use Rattle.bus.specs.Reading.{encodedRead};
 ghost use Rattle.onegrish_reading.specs.Channels.{readingInto};
 ghost use Rattle.onegrish_answers.specs.Handed.{numberInto, placeInto, pollsOf};
 ghost use Rattle.onegrish.specs.Lent.{bytesInto, pairsInto};
-ghost use Rattle.onegrish.specs.Version.{version};
+ghost use Rattle.onegrish_answers.specs.Version.{version};
 use bus::Bus;
 use bus::Device;
 use onegrish_answers::messages;
 use onegrish_answers::times;
 use waiting::Estimate;
-
-// The version of the library's interface, which include/onegrish.h names too.
-const VERSION: u32 = 2;
 
 // The version of the interface that the library was built with.
 // It answers no number of the paper's.
@@ -27,7 +24,7 @@ const VERSION: u32 = 2;
 pub extern "C" fn onegrish_version() -> u32
     ensures { λ r. ⌜ r ≡ version ⌝ }
 {
-    VERSION
+    onegrish_answers::version()
 }
 
 // One reading: its channels' numbers at the front of `numbers`, and at the front of `values` the temperature, the fine

@@ -2,7 +2,7 @@
 use mathlib.Core.Path.{sym, _∙_}
 use mir.Facts.{toZ-ofZ}
 use borrow.Author.Needs.{needs}
-use Rattle.formula.specs.Plain.{plainly}
+use Rattle.formula.specs.Plain.{channelPlainly}
 use Rattle.formula_humidity.proofs.Ranges.{plain-is}
 use Rattle.formula_humidity.proofs.humidity_plainly.Statement.{statement}
 use Rattle.formula_humidity.proofs.humidity_plainly.Tie as tie
@@ -17,7 +17,7 @@ returns c =
     rw (rw f at (sym (g .is-plain .ensures) ∙ c .before .if1 .taken)) (rw f at (c .humidity .ensures))
 
 returns-2 : tie.Need-returns-2
-unfolding plainly
+unfolding channelPlainly
 returns-2 c =
     let f = toZ-ofZ (c .before .before .fits .fine) in
     rw (rw f at (sym (c .before .is-plain .ensures) ∙ c .if1 .left))

@@ -1,7 +1,7 @@
 -- `temperature::temperature_plainly` meets its contract: the guard decides, and near T1 the plain road gives the answer.
 use mathlib.Core.Path.{sym, _∙_}
 use borrow.Author.Needs.{needs}
-use Rattle.formula.specs.Plain.{plainTemperature}
+use Rattle.formula.specs.Plain.{temperaturePlainly}
 use Rattle.formula_temperature.proofs.Ranges.{near-is}
 use Rattle.formula_temperature.proofs.temperature_plainly.Statement.{statement}
 use Rattle.formula_temperature.proofs.temperature_plainly.Tie as tie
@@ -15,7 +15,7 @@ returns c =
     rw (c .take-temperature .ensures, t .temperature .ensures, sym (t .before .before .is-near .ensures), t .before .if1 .taken)
 
 returns-2 : tie.Need-returns-2
-unfolding plainTemperature
+unfolding temperaturePlainly
 returns-2 c = rw (sym (c .before .is-near .ensures), c .if1 .left)
 
 pub temperature-plainly-spec : {M : Type 1} → statement M

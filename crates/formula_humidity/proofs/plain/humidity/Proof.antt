@@ -11,7 +11,7 @@ use Rattle.steps.specs.declared.Signed.the-variants.{Bits32}
 use Rattle.steps.specs.Step.{onValue}
 use Rattle.steps.specs.Work.{run}
 use Rattle.formula_humidity.specs.Humidity.{differenceLine, levelFactor, gainFactor, productLine, humidityLines, humidityFormula, humidityOf}
-use Rattle.formula.specs.Plain.{Gives, plainly}
+use Rattle.formula.specs.Plain.{Gives, channelPlainly}
 use Rattle.formula_humidity.specs.Plain.{Small, multiplies}
 use Rattle.formula.proofs.Bounds.{local, fit, back, onto, wider, widened, word, literal, times, times-within, minus-within}
 use Rattle.formula_humidity.proofs.Ranges.{small-is}
@@ -115,10 +115,10 @@ last-is c = let v = lines (c .before) in rw (v .is) (rw (back v) at (c .last .en
 returns : tie.Need-returns
 returns c =
     let d = c .before .before .before in
-    rw (c .take .ensures, multiplies-is (d .before), d .if1 .taken) (ap (plainly true) (last-is (c .before)))
+    rw (c .take .ensures, multiplies-is (d .before), d .if1 .taken) (ap (channelPlainly true) (last-is (c .before)))
 
 returns-2 : tie.Need-returns-2
-unfolding plainly
+unfolding channelPlainly
 returns-2 c = rw (multiplies-is (c .before), c .if1 .left)
 
 pub humidity-spec : {M : Type 1} → statement M

@@ -16,7 +16,7 @@ use Rattle.steps.specs.Work.{run}
 use Rattle.formula_pressure.specs.Pressure.{differenceLine, offsetLines, scaleLines, divisorLines, quotientLines, refinedLines, pressureLines, pressureFormula, pressureOf}
 use Rattle.paper.specs.Numbers as no
 use Rattle.steps.specs.Step.{isNonzero}
-use Rattle.formula.specs.Plain.{Gives, plainly}
+use Rattle.formula.specs.Plain.{Gives, channelPlainly}
 use Rattle.formula_pressure.specs.Plain.{Dividing, dividendLine, divisionLine, divides}
 use Rattle.formula.proofs.Bounds.{local, fit, back, onto, passing, widened, word, literal, minus-within, far-is}
 use Rattle.formula_pressure.proofs.Ranges.{dividing-is}
@@ -154,10 +154,10 @@ in-range-is c = let p = lines (c .before) in rw (p .is) (rw (back p) at (c .in-r
 returns : tie.Need-returns
 returns c =
     let d = c .before .before .before .before in
-    rw (c .take .ensures, divides-is (d .before), d .if1 .taken) (ap (plainly true) (in-range-is (c .before)))
+    rw (c .take .ensures, divides-is (d .before), d .if1 .taken) (ap (channelPlainly true) (in-range-is (c .before)))
 
 returns-2 : tie.Need-returns-2
-unfolding plainly
+unfolding channelPlainly
 returns-2 c = rw (divides-is (c .before), c .if1 .left)
 
 pub pressure-spec : {M : Type 1} → statement M
