@@ -2,7 +2,6 @@
 ghost use mathlib.Core.Path.{_≡_};
 ghost use mathlib.Core.Bool.{true};
 ghost use Prim.Native.Nat.{_<_};
-ghost use lib.IntN.{natAbs};
 ghost use lib.ListN.{length};
 ghost use Rattle.calibration.specs.Calibration.{calibrationAnswer};
 ghost use Rattle.onegrish_kept.specs.Words as kept;
@@ -27,20 +26,6 @@ fn without_sign(word: i16) -> u16
     }
 }
 
-// Whether a word is one of 8 bits without a sign.
-fn is_byte(word: i16) -> bool
-    ensures { λ r. ⌜ r ≡ kept.isByte word ⌝ }
-{
-    (0 <= word) & (word <= 255)
-}
-
-// Whether a word is one of 8 bits with a sign.
-fn is_signed_byte(word: i16) -> bool
-    ensures { λ r. ⌜ r ≡ kept.isSignedByte word ⌝ }
-{
-    (-128 <= word) & (word <= 127)
-}
-
 // The word at place k.
 fn word_at(words: &[i16], k: usize) -> i16
     requires { ⌜ k < length (now words) ⌝ }
@@ -50,27 +35,15 @@ fn word_at(words: &[i16], k: usize) -> i16
 }
 
 // Whether H1, H3 and H6 are words of 8 bits.
+// H6 has a sign, the others have none.
 fn are_words(words: &[i16]) -> bool
     requires { ⌜ length (now words) ≡ 18 ⌝ }
     ensures { λ r. ⌜ r ≡ kept.areWords (now (words .entry)) ⌝ }
 {
-    is_byte(word_at(words, 12)) & (is_byte(word_at(words, 14)) & is_signed_byte(word_at(words, 17)))
-}
-
-// A word of 8 bits without a sign.
-fn byte(word: i16) -> u8
-    requires { ⌜ kept.isByte word ≡ true ⌝ }
-    ensures { λ r. ⌜ r ≡ natAbs word ⌝ }
-{
-    word as u8
-}
-
-// A word of 8 bits with a sign.
-fn signed_byte(word: i16) -> i8
-    requires { ⌜ kept.isSignedByte word ≡ true ⌝ }
-    ensures { λ r. ⌜ r ≡ word ⌝ }
-{
-    word as i8
+    let h1 = word_at(words, 12);
+    let h3 = word_at(words, 14);
+    let h6 = word_at(words, 17);
+    ((0 <= h1) & (h1 <= 255)) & (((0 <= h3) & (h3 <= 255)) & ((-128 <= h6) & (h6 <= 127)))
 }
 
 // T1 to T3, from their places.
@@ -109,12 +82,12 @@ fn humidity_words(words: &[i16]) -> HumidityWords
     ensures { λ r. ⌜ r ≡ kept.keptHumidity (now (words .entry)) ⌝ }
 {
     HumidityWords {
-        h1: byte(word_at(words, 12)),
+        h1: word_at(words, 12) as u8,
         h2: word_at(words, 13),
-        h3: byte(word_at(words, 14)),
+        h3: word_at(words, 14) as u8,
         h4: word_at(words, 15),
         h5: word_at(words, 16),
-        h6: signed_byte(word_at(words, 17)),
+        h6: word_at(words, 17) as i8,
     }
 }
 
