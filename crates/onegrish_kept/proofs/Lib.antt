@@ -1,4 +1,2 @@
--- Words with a sign; a list laid into another; and why written words are read again as they were.
+-- Words with a sign.
 pub mod Signs
-pub mod Laid
-pub mod RoundTrip

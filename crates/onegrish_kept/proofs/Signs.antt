@@ -14,20 +14,26 @@ use Rattle.laws.specs.Tests.{both, never}
 use Rattle.onegrish_kept.specs.Words.{wordAt, isByte, isSignedByte, areWords, unsigned}
 
 -- a word of 8 bits without a sign
-pub byte-fits : (z : ℤ) → isByte z ≡ true → T (nonNeg z) × Fits w8 (natAbs z)
+byte-fits : (z : ℤ) → isByte z ≡ true → T (nonNeg z) × Fits w8 (natAbs z)
 byte-fits (pos n) e = let h = leb-true n 255 (both (leb 0 n) (leb n 255) e .1) in (tt, record { fits = omega arith })
 byte-fits (negsuc n) e = absurd (never e)
 
 -- a word of 8 bits with a sign
-pub signed-byte-fits : (z : ℤ) → isSignedByte z ≡ true → SFits w8 z
+signed-byte-fits : (z : ℤ) → isSignedByte z ≡ true → SFits w8 z
 signed-byte-fits (pos n) e = let h = leb-true n 127 e in record { sfits = omega arith }
 signed-byte-fits (negsuc n) e = let h = leb-true n 127 (both (leb n 127) true e .0) in record { sfits = omega arith }
 
 -- what the test of the words says of each
-pub words-bytes : (words : List ℤ) → areWords words ≡ true → (isByte (wordAt words 12) ≡ true) × ((isByte (wordAt words 14) ≡ true) × (isSignedByte (wordAt words 17) ≡ true))
-words-bytes words e =
-    let h = both (isByte (wordAt words 12)) (isByte (wordAt words 14) && isSignedByte (wordAt words 17)) e in
-    (h .0, both (isByte (wordAt words 14)) (isSignedByte (wordAt words 17)) (h .1))
+pub record Bytes (words : List ℤ) : Type 0 where
+  pub h1 : T (nonNeg (wordAt words 12)) × Fits w8 (natAbs (wordAt words 12))
+  pub h3 : T (nonNeg (wordAt words 14)) × Fits w8 (natAbs (wordAt words 14))
+  pub h6 : SFits w8 (wordAt words 17)
+
+pub bytes-of : (words : List ℤ) → areWords words ≡ true → Bytes words
+bytes-of words e =
+    let a = both (isByte (wordAt words 12)) (isByte (wordAt words 14) && isSignedByte (wordAt words 17)) e in
+    let b = both (isByte (wordAt words 14)) (isSignedByte (wordAt words 17)) (a .1) in
+    record { h1 = byte-fits (wordAt words 12) (a .0); h3 = byte-fits (wordAt words 14) (b .0); h6 = signed-byte-fits (wordAt words 17) (b .1) }
 
 -- a negative word of 16 bits, and 0x10000
 pub record Raised (z : ℤ) : Type 0 where

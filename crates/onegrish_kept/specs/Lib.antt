@@ -1,3 +1,2 @@
--- The chip's words in 16 bits, written and read again.
+-- The chip's words out of numbers of 16 bits.
 pub mod Words
-pub mod RoundTrip

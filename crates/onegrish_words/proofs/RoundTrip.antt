@@ -17,9 +17,10 @@ use Rattle.calibration.specs.Calibration.{signed, wordsOf, calibrated}
 use Rattle.compensation.specs.declared.Answer.{Answer}
 use Rattle.compensation.specs.declared.Answer.the-variants as answer
 use Rattle.compensation.specs.Compensation.{compensatedWords, compensatedWith, compensated}
-use Rattle.onegrish_kept.specs.Words.{isSignedByte, withWords, wordsInto}
-use Rattle.onegrish_kept.specs.RoundTrip.{InRange}
-use Rattle.onegrish_kept.proofs.RoundTrip.{read-again}
+use Rattle.onegrish_kept.specs.Words.{isSignedByte}
+use Rattle.onegrish_laid.specs.Written.{withWords, wordsInto}
+use Rattle.onegrish_laid.specs.RoundTrip.{InRange}
+use Rattle.onegrish_laid.proofs.RoundTrip.{read-again}
 use Rattle.onegrish_words.specs.Kept.{compensatedKept}
 use Rattle.onegrish_words.specs.RoundTrip.{AllBytes, AsTheBlocks}
 

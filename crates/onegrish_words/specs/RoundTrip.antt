@@ -7,7 +7,7 @@ use lib.ListN.{getD, take}
 use Rattle.paper.specs.Numbers as no
 use Rattle.calibration.specs.Calibration.{calibrated}
 use Rattle.compensation.specs.Compensation.{compensated}
-use Rattle.onegrish_kept.specs.Words.{wordsInto}
+use Rattle.onegrish_laid.specs.Written.{wordsInto}
 use Rattle.onegrish_words.specs.Kept.{compensatedKept}
 
 -- each of the list is a byte

@@ -2,7 +2,7 @@
 // It stands apart from the crate onegrish because the compiler puts the formulas whole into a call only where no other call has them.
 ghost use mathlib.Core.Path.{_≡_};
 ghost use Rattle.calibration.specs.Calibration.{calibrated};
-ghost use Rattle.onegrish_kept.specs.Words.{wordsInto};
+ghost use Rattle.onegrish_laid.specs.Written.{wordsInto};
 ghost use Rattle.onegrish_reading.specs.Channels.{readingInto};
 ghost use Rattle.onegrish_words.specs.Kept.{compensatedKept};
 
@@ -12,7 +12,7 @@ ghost use Rattle.onegrish_words.specs.Kept.{compensatedKept};
 pub extern "C" fn onegrish_words(one: &[u8], two: &[u8], words: &mut [i16]) -> u8
     ensures { λ r. ⌜ (r, now (words .exit)) ≡ wordsInto (calibrated (now (one .entry)) (now (two .entry))) (now (words .entry)) ⌝ }
 {
-    onegrish_kept::hand_words(calibration::calibrate(one, two), words)
+    onegrish_laid::hand_words(calibration::calibrate(one, two), words)
 }
 
 // One reading with kept words: its channels' numbers at the front of `numbers`, and at the front of `values` the temperature, the fine

@@ -8,10 +8,10 @@ use Rattle.onegrish_kept.proofs.are_words.Tie as tie
 
 returns : tie.Need-returns
 returns c =
-    let a : SFits w16 (c .before .before .before .before .before .word-at .result) = search needs in
-    let b : SFits w16 (c .before .before .before .word-at2 .result) = search needs in
-    let d : SFits w16 (c .before .word-at3 .result) = search needs in
+    let a : SFits w16 (c .before .before .word-at .result) = search needs in
+    let b : SFits w16 (c .before .word-at2 .result) = search needs in
+    let d : SFits w16 (c .word-at3 .result) = search needs in
     cc (toZ-ofZ a, toZ-ofZ b, toZ-ofZ d)
 
 pub are-words-spec : {M : Type 1} → statement M
-are-words-spec = tie.close (tie.spec (λ c κs. search needs) (λ c κs. search needs) (λ c κs. search needs) (λ c κs. search needs) (λ c κs. search needs) (λ c κs. search needs) returns)
+are-words-spec = tie.close (tie.spec (λ c κs. search needs) (λ c κs. search needs) (λ c κs. search needs) returns)

@@ -1,11 +1,11 @@
--- `onegrish_kept::with_sign` meets its contract: a number from 0x8000 on is lowered by 0x10000 on the way through a wider type. Assumes nothing.
+-- `onegrish_laid::with_sign` meets its contract: a number from 0x8000 on is lowered by 0x10000 on the way through a wider type. Assumes nothing.
 use native.Mathlib.Omega.{arith}
 use mir.Syntax.{w16, w32}
 use mir.Facts.{toZ-ofZ, toZ-pos}
 use borrow.Author.Needs.{needs}
 use Rattle.calibration.proofs.Laws.{signed-low, signed-high, Lowered, lowered}
-use Rattle.onegrish_kept.proofs.with_sign.Statement.{statement}
-use Rattle.onegrish_kept.proofs.with_sign.Tie as tie
+use Rattle.onegrish_laid.proofs.with_sign.Statement.{statement}
+use Rattle.onegrish_laid.proofs.with_sign.Tie as tie
 
 high : (c : tie.Else1) → Lowered w16 w32 (c .before .args .word)
 high c = lowered w16 w32 (c .before .args .word) (c .if1 .left) (omega arith) (omega arith)

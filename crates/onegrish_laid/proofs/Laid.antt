@@ -5,7 +5,7 @@ use mathlib.Core.List.{List, [], _∷_}
 use native.Mathlib.Omega.{arith}
 use lib.ListN.{length, getD, set, take, length-set}
 use lib.Seq.{getD-set-same, getD-set-other}
-use Rattle.onegrish_kept.specs.Words.{laid}
+use Rattle.onegrish_laid.specs.Written.{laid}
 
 module _ {A : Type 0} (d : A) where
   pub length-laid : (i : ℕ) (xs lent : List A) → length (laid i xs lent) ≡ length lent

@@ -7,7 +7,8 @@ use lib.IntN.{ℤ}
 use lib.ListN.{length, take}
 use Rattle.calibration.specs.declared.Words.{Words}
 use Rattle.calibration.specs.declared.Calibration.the-variants.{Known}
-use Rattle.onegrish_kept.specs.Words.{isSignedByte, withWords, taken}
+use Rattle.onegrish_kept.specs.Words.{isSignedByte, taken}
+use Rattle.onegrish_laid.specs.Written.{withWords}
 
 -- T1 and P1 are of 16 bits, H1 and H3 of 8, and so is H6 with its sign
 pub record InRange (words : Words) : Type 0 where

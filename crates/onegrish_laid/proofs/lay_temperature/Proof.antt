@@ -1,10 +1,10 @@
--- `onegrish_kept::lay_temperature` meets its contract: the three words are laid. Assumes nothing.
+-- `onegrish_laid::lay_temperature` meets its contract: the three words are laid. Assumes nothing.
 use mir.Syntax.{w16}
 use mir.Val.{SFits}
 use mir.Facts.{toZ-ofZ}
 use borrow.Author.Needs.{needs}
-use Rattle.onegrish_kept.proofs.lay_temperature.Statement.{statement}
-use Rattle.onegrish_kept.proofs.lay_temperature.Tie as tie
+use Rattle.onegrish_laid.proofs.lay_temperature.Statement.{statement}
+use Rattle.onegrish_laid.proofs.lay_temperature.Tie as tie
 
 word-fits : (s : tie.Start) → SFits w16 (s .args .w .t2) × SFits w16 (s .args .w .t3)
 word-fits s = search needs

@@ -14,10 +14,11 @@ use Rattle.calibration.specs.declared.HumidityWords.{HumidityWords}
 use Rattle.calibration.specs.declared.Words.{Words}
 use Rattle.calibration.specs.declared.Calibration.the-variants.{Known}
 use Rattle.calibration.specs.Calibration.{signed}
 use Rattle.onegrish_kept.specs.Words as kept
 use Rattle.onegrish_kept.specs.Words.{wordAt, taken}
-use Rattle.onegrish_kept.specs.RoundTrip.{InRange, ReadAgain}
-use Rattle.onegrish_kept.proofs.Laid.{length-laid, before-laid, at-laid, at-front}
+use Rattle.onegrish_laid.specs.Written as written
+use Rattle.onegrish_laid.specs.RoundTrip.{InRange, ReadAgain}
+use Rattle.onegrish_laid.proofs.Laid.{length-laid, before-laid, at-laid, at-front}
 
 -- ---- a word with and without its sign
 
@@ -33,10 +34,10 @@ byte-is n h = rw (le-leb 0 n (omega arith), le-leb n 255 (omega arith))
 
 -- ---- what a list reads as, by its places
 
-temperature-by : (list : List ℤ) (w : TemperatureWords) → w .t1 < 0x10000 → ((k : ℕ) → k < 3 → wordAt list k ≡ wordAt (kept.temperatureList w) k) → kept.keptTemperature list ≡ w
+temperature-by : (list : List ℤ) (w : TemperatureWords) → w .t1 < 0x10000 → ((k : ℕ) → k < 3 → wordAt list k ≡ wordAt (written.temperatureList w) k) → kept.keptTemperature list ≡ w
 temperature-by list w h at = rw (at 0 (omega arith), at 1 (omega arith), at 2 (omega arith), unsigned-back (w .t1) h)
 
-pressure-by : (list : List ℤ) (w : PressureWords) → w .p1 < 0x10000 → ((k : ℕ) → k < 9 → wordAt list (3 + k) ≡ wordAt (kept.pressureList w) k) → kept.keptPressure list ≡ w
+pressure-by : (list : List ℤ) (w : PressureWords) → w .p1 < 0x10000 → ((k : ℕ) → k < 9 → wordAt list (3 + k) ≡ wordAt (written.pressureList w) k) → kept.keptPressure list ≡ w
 pressure-by list w h at =
     rw (
       at 0 (omega arith),
@@ -51,12 +52,12 @@ pressure-by list w h at =
       unsigned-back (w .p1) h,
     )
 
-humidity-by : (list : List ℤ) (w : HumidityWords) → ((k : ℕ) → k < 6 → wordAt list (12 + k) ≡ wordAt (kept.humidityList w) k) → kept.keptHumidity list ≡ w
+humidity-by : (list : List ℤ) (w : HumidityWords) → ((k : ℕ) → k < 6 → wordAt list (12 + k) ≡ wordAt (written.humidityList w) k) → kept.keptHumidity list ≡ w
 humidity-by list w at = rw (at 0 (omega arith), at 1 (omega arith), at 2 (omega arith), at 3 (omega arith), at 4 (omega arith), at 5 (omega arith))
 
 words-by :
     (list : List ℤ) (w : HumidityWords) → w .h1 < 256 → w .h3 < 256 → kept.isSignedByte (w .h6) ≡ true →
-    ((k : ℕ) → k < 6 → wordAt list (12 + k) ≡ wordAt (kept.humidityList w) k) →
+    ((k : ℕ) → k < 6 → wordAt list (12 + k) ≡ wordAt (written.humidityList w) k) →
     kept.areWords list ≡ true
 words-by list w a b c at = rw (at 0 (omega arith), at 2 (omega arith), at 5 (omega arith), byte-is (w .h1) a, byte-is (w .h3) b, c)
 
@@ -74,43 +75,43 @@ module _ (words : Words) (range : InRange words) (lent : List ℤ) (room : 18 �
   zero-word = pos 0
 
   abbrev with-temperature : List ℤ
-  with-temperature = kept.laid 0 (kept.temperatureList (words .temperature)) lent
+  with-temperature = written.laid 0 (written.temperatureList (words .temperature)) lent
 
   abbrev with-pressure : List ℤ
-  with-pressure = kept.laid 3 (kept.pressureList (words .pressure)) with-temperature
+  with-pressure = written.laid 3 (written.pressureList (words .pressure)) with-temperature
 
   abbrev all : List ℤ
-  all = kept.laid 12 (kept.humidityList (words .humidity)) with-pressure
+  all = written.laid 12 (written.humidityList (words .humidity)) with-pressure
 
   size-temperature : length with-temperature ≡ length lent
-  size-temperature = length-laid zero-word 0 (kept.temperatureList (words .temperature)) lent
+  size-temperature = length-laid zero-word 0 (written.temperatureList (words .temperature)) lent
 
   size-pressure : length with-pressure ≡ length lent
-  size-pressure = length-laid zero-word 3 (kept.pressureList (words .pressure)) with-temperature ∙ size-temperature
+  size-pressure = length-laid zero-word 3 (written.pressureList (words .pressure)) with-temperature ∙ size-temperature
 
   size-all : length all ≡ length lent
-  size-all = length-laid zero-word 12 (kept.humidityList (words .humidity)) with-pressure ∙ size-pressure
+  size-all = length-laid zero-word 12 (written.humidityList (words .humidity)) with-pressure ∙ size-pressure
 
-  t-at : (k : ℕ) → k < 3 → wordAt (take 18 all) k ≡ wordAt (kept.temperatureList (words .temperature)) k
+  t-at : (k : ℕ) → k < 3 → wordAt (take 18 all) k ≡ wordAt (written.temperatureList (words .temperature)) k
   t-at k h =
       at-front zero-word 18 all k (omega arith)
-      ∙ before-laid zero-word 12 (kept.humidityList (words .humidity)) with-pressure k (omega arith)
-      ∙ before-laid zero-word 3 (kept.pressureList (words .pressure)) with-temperature k h
+      ∙ before-laid zero-word 12 (written.humidityList (words .humidity)) with-pressure k (omega arith)
+      ∙ before-laid zero-word 3 (written.pressureList (words .pressure)) with-temperature k h
       ∙ ap (λ (n : ℕ). wordAt with-temperature n) (omega arith)
-      ∙ at-laid zero-word 0 (kept.temperatureList (words .temperature)) lent k h (omega arith)
+      ∙ at-laid zero-word 0 (written.temperatureList (words .temperature)) lent k h (omega arith)
 
-  p-at : (k : ℕ) → k < 9 → wordAt (take 18 all) (3 + k) ≡ wordAt (kept.pressureList (words .pressure)) k
+  p-at : (k : ℕ) → k < 9 → wordAt (take 18 all) (3 + k) ≡ wordAt (written.pressureList (words .pressure)) k
   p-at k h =
       let e = size-temperature in
       at-front zero-word 18 all (3 + k) (omega arith)
-      ∙ before-laid zero-word 12 (kept.humidityList (words .humidity)) with-pressure (3 + k) (omega arith)
-      ∙ at-laid zero-word 3 (kept.pressureList (words .pressure)) with-temperature k h (omega (arith, e))
+      ∙ before-laid zero-word 12 (written.humidityList (words .humidity)) with-pressure (3 + k) (omega arith)
+      ∙ at-laid zero-word 3 (written.pressureList (words .pressure)) with-temperature k h (omega (arith, e))
 
-  h-at : (k : ℕ) → k < 6 → wordAt (take 18 all) (12 + k) ≡ wordAt (kept.humidityList (words .humidity)) k
+  h-at : (k : ℕ) → k < 6 → wordAt (take 18 all) (12 + k) ≡ wordAt (written.humidityList (words .humidity)) k
   h-at k h =
       let e = size-pressure in
       at-front zero-word 18 all (12 + k) (omega arith)
-      ∙ at-laid zero-word 12 (kept.humidityList (words .humidity)) with-pressure k h (omega (arith, e))
+      ∙ at-laid zero-word 12 (written.humidityList (words .humidity)) with-pressure k h (omega (arith, e))
 
   taken-back : taken (take 18 all) ≡ Known words
   taken-back =

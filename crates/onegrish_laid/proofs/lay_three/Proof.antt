@@ -1,12 +1,12 @@
--- `onegrish_kept::lay_three` meets its contract: each word is laid at its place. Assumes nothing.
+-- `onegrish_laid::lay_three` meets its contract: each word is laid at its place. Assumes nothing.
 use native.Mathlib.Omega.{arith}
 use Prim.Native.Nat.{_+_}
 use mathlib.Core.Path.{_≡_}
 use mir.Facts.{toZ-ofZ}
 use lib.ListN.{length-set}
 use borrow.Author.Needs.{needs}
-use Rattle.onegrish_kept.proofs.lay_three.Statement.{statement}
-use Rattle.onegrish_kept.proofs.lay_three.Tie as tie
+use Rattle.onegrish_laid.proofs.lay_three.Statement.{statement}
+use Rattle.onegrish_laid.proofs.lay_three.Tie as tie
 
 slice-set-from-b : tie.Need-slice-set-from-b
 slice-set-from-b c = simp length-set (omega arith)
