@@ -9,7 +9,6 @@ use machine::Outcome;
 use machine_state::answer;
 
 mod reading; // what byte gives, and how close ends a burst
-mod registers; // the register at an address
 
 // A burst is opened at an address.
 pub fn open(m: Machine, address: u8) -> Outcome

@@ -2,7 +2,6 @@
 ghost use mathlib.Core.Path.{_≡_};
 ghost use Rattle.machine.specs.Events as ev;
 ghost use Rattle.machine.specs.Fields as fields;
-use crate::registers;
 use machine::Burst;
 use machine::Machine;
 use machine::Outcome;
@@ -34,7 +33,7 @@ fn give_at(first: u16, next: u16, m: Machine) -> Outcome
     }
     let address = next as u8;
     let mut o = answer(paper::DONE, with_burst(Burst::Open(first, next + 1), m));
-    o.value = registers::register(address, m);
+    o.value = machine_registers::register(address, m);
     o
 }
 

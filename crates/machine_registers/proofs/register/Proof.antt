@@ -1,7 +1,7 @@
 -- The code asks for the addresses in the definition's order.
 use Rattle.laws.specs.Cases.{cases}
-use Rattle.machine_burst.proofs.registers.register.Statement.{statement}
-use Rattle.machine_burst.proofs.registers.register.Tie as tie
+use Rattle.machine_registers.proofs.register.Statement.{statement}
+use Rattle.machine_registers.proofs.register.Tie as tie
 
 pub register-spec : {M : Type 1} → statement M
 register-spec =

@@ -4,8 +4,8 @@ use mathlib.Core.Bool.{Bool, true, false, cond}
 use mathlib.Core.Path.{_≡_}
 use native.Mathlib.Omega.{arith}
 use Rattle.paper.specs.Registers as reg
-use Rattle.machine_burst.proofs.registers.status.Statement.{statement}
-use Rattle.machine_burst.proofs.registers.status.Tie as tie
+use Rattle.machine_registers.proofs.status.Statement.{statement}
+use Rattle.machine_registers.proofs.status.Tie as tie
 
 at-most : (b : Bool) (n r : ℕ) → r ≡ cond b n 0 → r ≤ n
 at-most true n r e = omega arith
