@@ -8,7 +8,7 @@ ghost use Rattle.bus.specs.declared.Bus.the-variants.{I2c, Spi};
 ghost use Rattle.bus.specs.declared.Device.the-variants.{At, Selected};
 ghost use Rattle.bus.specs.Writing.{encodedWrite, decodedWrite};
 ghost use Rattle.bus.specs.Reading.{encodedRead};
-ghost use Rattle.onegrish_reading.specs.Channels.{readingInto};
+ghost use Rattle.onegrish_channels.specs.Channels.{readingInto};
 ghost use Rattle.onegrish_answers.specs.Handed.{numberInto, placeInto, pollsOf};
 ghost use Rattle.onegrish.specs.Lent.{bytesInto, pairsInto};
 ghost use Rattle.onegrish_answers.specs.Version.{version};

@@ -13,7 +13,7 @@ use Rattle.calibration.specs.declared.Words.{Words}
 use Rattle.calibration.specs.declared.Calibration.the-variants as blocks
 use Rattle.data.specs.Counts.{countsOf}
 use Rattle.compensation.specs.Compensation.{reading, compensatedWords, compensatedWith}
-use Rattle.onegrish_reading.specs.Channels.{channelsInto, readingInto}
+use Rattle.onegrish_channels.specs.Channels.{channelsInto, readingInto}
 use Rattle.onegrish_reading.specs.Plain.{areEnabled, isTried, doneWith}
 
 pub record Tried (bytes t p h numbers values : ℕ) : Type 0 where

@@ -1,3 +1,2 @@
--- What lent places hold once a reading is handed over in them.
-pub mod Channels
+-- When the plain road of a whole reading is tried, and what it leaves.
 pub mod Plain

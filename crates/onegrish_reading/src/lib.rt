@@ -1,9 +1,8 @@
 // A reading handed to C: the paper's number, and the channels in lent slices, which are written on 0 alone.
 ghost use mathlib.Core.Path.{_≡_};
 ghost use Rattle.compensation.specs.Compensation.{compensatedWith};
-ghost use Rattle.onegrish_reading.specs.Channels.{readingInto};
+ghost use Rattle.onegrish_channels.specs.Channels.{readingInto};
 
-mod channels; // any reading
 mod plain; // one whose three channels take the plain road
 
 use calibration::Calibration;
@@ -25,7 +24,7 @@ pub fn hand_compensated(
     if plain::hand(known, bytes, t, p, h, numbers, values) {
         return paper::DONE;
     }
-    channels::hand_reading(
+    onegrish_channels::hand_reading(
         compensation::compensate_with(known, bytes, t, p, h),
         numbers,
         values,

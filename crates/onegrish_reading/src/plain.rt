@@ -7,11 +7,11 @@ ghost use Rattle.paper.specs.Registers as reg;
 ghost use Rattle.calibration.specs.declared.Calibration.the-variants as blocks;
 ghost use Rattle.data.specs.Counts.{countsOf};
 ghost use Rattle.compensation.specs.Compensation.{reading, compensatedWith};
-ghost use Rattle.onegrish_reading.specs.Channels.{channelsInto, readingInto};
+ghost use Rattle.onegrish_channels.specs.Channels.{channelsInto, readingInto};
 ghost use Rattle.onegrish_reading.specs.Plain.{areEnabled, isTried, doneWith, handed};
-use super::channels::hand_channels;
 use calibration::Calibration;
 use calibration::Words;
+use compensation::Answer;
 use compensation::Reading;
 use data::Counts;
 use formula::ChannelAnswer;
@@ -41,12 +41,12 @@ fn hand_counts(words: Words, counts: Counts, numbers: &mut [u8], values: &mut [i
     };
     let pressure = ChannelAnswer::Known(p.value);
     let humidity = ChannelAnswer::Known(h.value);
-    hand_channels(
-        Reading {
+    onegrish_channels::hand_reading(
+        Answer::Done(Reading {
             temperature,
             pressure,
             humidity,
-        },
+        }),
         numbers,
         values,
     );

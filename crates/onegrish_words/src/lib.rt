@@ -3,7 +3,7 @@
 ghost use mathlib.Core.Path.{_≡_};
 ghost use Rattle.calibration.specs.Calibration.{calibrated};
 ghost use Rattle.onegrish_laid.specs.Written.{wordsInto};
-ghost use Rattle.onegrish_reading.specs.Channels.{readingInto};
+ghost use Rattle.onegrish_channels.specs.Channels.{readingInto};
 ghost use Rattle.onegrish_words.specs.Kept.{compensatedKept};
 
 // The 18 words T1 to T3, P1 to P9, H1 to H6 of the two calibration blocks, at the front of `words`.

@@ -2,7 +2,7 @@
 ghost use mathlib.Core.Path.{_≡_};
 ghost use Prim.Native.Nat.{_≤_, _<_};
 ghost use lib.ListN.{length};
-ghost use Rattle.onegrish_reading.specs.Channels as into;
+ghost use Rattle.onegrish_channels.specs.Channels as into;
 use compensation::Answer;
 use compensation::Reading;
 use formula::ChannelAnswer;
@@ -38,7 +38,7 @@ fn hand_channel(answer: ChannelAnswer, place: usize, values: &mut [i64]) -> u8
 }
 
 // The three channels of a reading, each at its places.
-pub(crate) fn hand_channels(reading: Reading, numbers: &mut [u8], values: &mut [i64])
+fn hand_channels(reading: Reading, numbers: &mut [u8], values: &mut [i64])
     requires { ⌜ (3 ≤ length (now numbers)) × (4 ≤ length (now values)) ⌝ }
     ensures { λ _. ⌜ (now (numbers .exit), now (values .exit)) ≡ into.channelsInto reading (now (numbers .entry)) (now (values .entry)) ⌝ }
 {
@@ -51,6 +51,7 @@ pub(crate) fn hand_channels(reading: Reading, numbers: &mut [u8], values: &mut [
 }
 
 // The number of a reading; its channels are written where it is 0.
+// A reading that is done asks for three numbers and four values, and is answered 9 without them.
 pub fn hand_reading(answer: Answer, numbers: &mut [u8], values: &mut [i64]) -> u8
     ensures { λ r. ⌜ (r, now (numbers .exit), now (values .exit)) ≡ into.readingInto answer (now (numbers .entry)) (now (values .entry)) ⌝ }
 {

@@ -1,11 +1,11 @@
--- `onegrish_reading::channels::hand_channel` meets its contract: by the case of the answer. Assumes nothing.
+-- `onegrish_channels::hand_channel` meets its contract: by the case of the answer. Assumes nothing.
 use native.Mathlib.Omega.{arith}
 use mir.Syntax.{w32, w64}
 use mir.Val.{Fits}
 use mir.Facts.{toZ-pos}
 use borrow.Author.Needs.{needs}
-use Rattle.onegrish_reading.proofs.channels.hand_channel.Statement.{statement}
-use Rattle.onegrish_reading.proofs.channels.hand_channel.Tie as tie
+use Rattle.onegrish_channels.proofs.hand_channel.Statement.{statement}
+use Rattle.onegrish_channels.proofs.hand_channel.Tie as tie
 
 returns : tie.Need-returns
 returns c = rw (c .before .answer .given .1)

@@ -1,4 +1,4 @@
--- `onegrish_reading::channels::hand_channels` meets its contract: each channel is handed over to its own places. Assumes nothing.
+-- `onegrish_channels::hand_channels` meets its contract: each channel is handed over to its own places. Assumes nothing.
 use Prim.Native.Nat.{ℕ}
 use mathlib.Core.Path.{ap}
 use mathlib.Core.List.{List}
@@ -6,8 +6,8 @@ use lib.IntN.{ℤ}
 use lib.ListN.{length-set}
 use native.Mathlib.Omega.{arith}
 use borrow.Author.Needs.{needs}
-use Rattle.onegrish_reading.proofs.channels.hand_channels.Statement.{statement}
-use Rattle.onegrish_reading.proofs.channels.hand_channels.Tie as tie
+use Rattle.onegrish_channels.proofs.hand_channels.Statement.{statement}
+use Rattle.onegrish_channels.proofs.hand_channels.Tie as tie
 
 abbrev number : ℕ × List ℤ → ℕ
 number q = q .0

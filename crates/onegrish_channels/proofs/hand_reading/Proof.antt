@@ -1,4 +1,4 @@
--- `onegrish_reading::channels::hand_reading` meets its contract: by the case of the answer, and then the places decide. Assumes nothing.
+-- `onegrish_channels::hand_reading` meets its contract: by the case of the answer, and then the places decide. Assumes nothing.
 use Prim.Native.Nat.{ℕ}
 use mathlib.Core.Path.{ap}
 use mathlib.Core.List.{List}
@@ -6,8 +6,8 @@ use lib.IntN.{ℤ}
 use Rattle.paper.specs.Numbers as no
 use Rattle.laws.specs.Cases.{cases, le-yes}
 use borrow.Author.Needs.{needs}
-use Rattle.onegrish_reading.proofs.channels.hand_reading.Statement.{statement}
-use Rattle.onegrish_reading.proofs.channels.hand_reading.Tie as tie
+use Rattle.onegrish_channels.proofs.hand_reading.Statement.{statement}
+use Rattle.onegrish_channels.proofs.hand_reading.Tie as tie
 
 returns : tie.Need-returns
 returns c =

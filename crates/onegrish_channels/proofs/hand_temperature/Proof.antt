@@ -1,12 +1,12 @@
--- `onegrish_reading::channels::hand_temperature` meets its contract: by the case of the answer. Assumes nothing.
+-- `onegrish_channels::hand_temperature` meets its contract: by the case of the answer. Assumes nothing.
 use mir.Syntax.{w32}
 use mir.Val.{SFits}
 use mir.Facts.{toZ-ofZ, sfits-widen}
 use native.Mathlib.Omega.{arith}
 use lib.ListN.{length-set}
 use borrow.Author.Needs.{needs}
-use Rattle.onegrish_reading.proofs.channels.hand_temperature.Statement.{statement}
-use Rattle.onegrish_reading.proofs.channels.hand_temperature.Tie as tie
+use Rattle.onegrish_channels.proofs.hand_temperature.Statement.{statement}
+use Rattle.onegrish_channels.proofs.hand_temperature.Tie as tie
 
 value-fits : (c : tie.After-known-told2) → SFits w32 (c .before .answer2 .given .0 .0)
 value-fits c = search needs
