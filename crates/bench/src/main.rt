@@ -1,5 +1,8 @@
 // The bench: reads commands from standard input, one a line, and writes their answers to standard output.
 ghost use Prim.Native.Nat.{_<_};
+
+mod lines; // what a line is answered
+
 use bench_bytes::front;
 use bench_bytes::rest;
 use bench_machine::Answered;
@@ -169,7 +172,7 @@ fn serve(block: &mut [u8], line: &mut [u8], out: &mut [u8]) {
     let mut turns = u64::MAX;
     while turns > 0 {
         kept = go_on(kept, block, line, out);
-        answered = bench_answer::answer(text(kept, block, line), answered.machine, out, kept.at);
+        answered = lines::answer(text(kept, block, line), answered.machine, out, kept.at);
         kept.at = answered.at;
         turns = left(turns, kept.last);
     }

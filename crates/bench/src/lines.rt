@@ -2,7 +2,7 @@
 ghost use mathlib.Core.Path.{_≡_};
 ghost use Rattle.bench_page.specs.Page.{_▹_};
 ghost use Rattle.bench_phrases.specs.Phrases.{ended};
-ghost use Rattle.bench_answer.specs.Answers as answers;
+ghost use Rattle.bench.specs.Answers as answers;
 use bench_bytes::front;
 use bench_bytes::rest;
 use bench_command::Asked;

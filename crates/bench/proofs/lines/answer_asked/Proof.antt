@@ -1,7 +1,7 @@
 -- The cases of the definition.
 use borrow.Author.Needs.{needs}
-use Rattle.bench_answer.proofs.answer_asked.Statement.{statement}
-use Rattle.bench_answer.proofs.answer_asked.Tie as tie
+use Rattle.bench.proofs.lines.answer_asked.Statement.{statement}
+use Rattle.bench.proofs.lines.answer_asked.Tie as tie
 
 returns : tie.Need-returns
 returns c = rw (c .before .enum-told .given .1, c .stay .ensures .0, c .stay .ensures .1)

@@ -1,8 +1,8 @@
 -- What the line asks, answered.
-use Rattle.bench_answer.specs.Answers.{zeros, answered}
+use Rattle.bench.specs.Answers.{zeros, answered}
 use borrow.Author.Needs.{needs}
-use Rattle.bench_answer.proofs.answer.Statement.{statement}
-use Rattle.bench_answer.proofs.answer.Tie as tie
+use Rattle.bench.proofs.lines.answer.Statement.{statement}
+use Rattle.bench.proofs.lines.answer.Tie as tie
 
 returns : tie.Need-returns
 unfolding answered zeros

@@ -1,7 +1,7 @@
 -- The parts of the bytes, in their order.
 use borrow.Author.Needs.{needs}
-use Rattle.bench_answer.proofs.comp.Statement.{statement}
-use Rattle.bench_answer.proofs.comp.Tie as tie
+use Rattle.bench.proofs.lines.comp.Statement.{statement}
+use Rattle.bench.proofs.lines.comp.Tie as tie
 
 returns : tie.Need-returns
 returns c =

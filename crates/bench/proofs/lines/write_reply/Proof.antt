@@ -1,7 +1,7 @@
 -- The cases of the definition.
 use borrow.Author.Needs.{needs}
-use Rattle.bench_answer.proofs.write_reply.Statement.{statement}
-use Rattle.bench_answer.proofs.write_reply.Tie as tie
+use Rattle.bench.proofs.lines.write_reply.Statement.{statement}
+use Rattle.bench.proofs.lines.write_reply.Tie as tie
 
 returns : tie.Need-returns
 returns c = rw (c .before .before .before .before .before .question .given .1, c .before .before .cal .ensures)
