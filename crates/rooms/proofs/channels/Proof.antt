@@ -1,0 +1,10 @@
+-- `rooms::channels` meets its contract: by the case of the answer.
+use borrow.Author.Needs.{needs}
+use Rattle.rooms.proofs.channels.Statement.{statement}
+use Rattle.rooms.proofs.channels.Tie as tie
+
+returns-2 : tie.Need-returns-2
+returns-2 c = rw (c .before .answer2 .given .1)
+
+pub channels-spec : {M : Type 1} → statement M
+channels-spec = tie.close (tie.spec (λ c. search needs) (λ c. search needs) (λ c. search needs) returns-2)
