@@ -20,13 +20,16 @@ use Rattle.rooms.specs.declared.MapPoint.{MapPoint}
 
 -- ---- the channels of an answer: one that is refused whole is missing in all three, with its number
 
-abbrev pub channelsOf : Answer → Reading
-channelsOf (Done reading) = reading
-channelsOf (Refused number) = record {
+abbrev pub missingWith : ℕ → Reading
+missingWith number = record {
   temperature = heat.Missing (missing number);
   pressure = channel.Missing (missing number);
   humidity = channel.Missing (missing number);
 }
+
+abbrev pub channelsOf : Answer → Reading
+channelsOf (Done reading) = reading
+channelsOf (Refused number) = missingWith number
 
 -- ---- doubles: `fin false m (pos e)` is m * 2 ^ e, so that the divisors are 256.0 and 1024.0; `div` and `ofInt` round as IEEE 754 says
 

@@ -4,7 +4,7 @@ use Rattle.rooms.proofs.channels.Statement.{statement}
 use Rattle.rooms.proofs.channels.Tie as tie
 
 returns-2 : tie.Need-returns-2
-returns-2 c = rw (c .before .answer2 .given .1)
+returns-2 c = rw (c .missing .ensures, c .before .before .answer2 .given .1)
 
 pub channels-spec : {M : Type 1} → statement M
-channels-spec = tie.close (tie.spec (λ c. search needs) (λ c. search needs) (λ c. search needs) returns-2)
+channels-spec = tie.close (tie.spec (λ c. search needs) (λ c. search needs) (λ c κs. tt) (λ c. search needs) returns-2)
