@@ -1,0 +1,5 @@
+-- Why the doubles are exact and the comparison honest; and worked cases.
+pub mod Bits
+pub mod Exact
+pub mod Honest
+pub mod Examples
