@@ -11,7 +11,7 @@ use lib.Ieee.{Float, nan, inf, fin, binary64, up, down, odd, ofBits, ofFields, t
 use lib.Ieee.Bits.{ofBits-toBits, toBits-lt}
 use lib.Ieee.Exact.{HasValue, odd-sign}
 use lib.Ieee.Fits.{down-pos}
-use Rattle.rooms.specs.Exact.{signBit, exponent, fraction, magnitude, Means}
+use Rattle.rooms.specs.Exact.{signBit, magnitude, Means}
 
 -- a float has one value
 one-value : (y : Float) (s t : Bool) (a c a' c' : ℕ) → HasValue y s a c → HasValue y t a' c' → (s ≡ t) × (a * c' ≡ a' * c)
@@ -36,7 +36,9 @@ fields-say u s (suc x) t a c v = go (eqb (suc x) 2047) refl v
     dead true v = v
     dead false v = v
 
-    go : (b : Bool) → eqb (suc x) 2047 ≡ b → HasValue (cond b (cond (eqb t 0) (inf u) nan) (odd 53 u (2 ^ 52 + t) x 1074)) s a c → (u ≡ s) × (suc x ≡ 2047 → ⊥) × ((2 ^ 52 + t) * 2 ^ x * c ≡ a * 2 ^ 1074)
+    go :
+        (b : Bool) → eqb (suc x) 2047 ≡ b → HasValue (cond b (cond (eqb t 0) (inf u) nan) (odd 53 u (2 ^ 52 + t) x 1074)) s a c →
+        (u ≡ s) × (suc x ≡ 2047 → ⊥) × ((2 ^ 52 + t) * 2 ^ x * c ≡ a * 2 ^ 1074)
     go true q v = absurd (dead (eqb t 0) v)
     go false q v =
         let (p, e) = one-value (odd 53 u (2 ^ 52 + t) x 1074) u s ((2 ^ 52 + t) * 2 ^ x) (2 ^ 1074) a c (odd-sign 53 u (2 ^ 52 + t) x 1074) v in

@@ -22,7 +22,7 @@ use Rattle.rooms.specs.declared.Cell.the-variants as the
 use Rattle.rooms.specs.declared.Cells.{Cells}
 use Rattle.rooms.specs.declared.MapPoint.{MapPoint}
 use Rattle.rooms.specs.Points.{hundredths, over, cellsOf}
-use Rattle.rooms.specs.Exact.{Means, Hides, Faithful, pointed, Distinct, FaithfulDistinct, ZeroIsKnown}
+use Rattle.rooms.specs.Exact.{Means, Hides, Faithful, pointed, FaithfulDistinct, ZeroIsKnown}
 use Rattle.rooms.proofs.Bits.{bit, means, one-meaning}
 
 -- ---- a whole number divided by 2 ^ k

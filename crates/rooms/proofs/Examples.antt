@@ -2,7 +2,7 @@
 use Prim.Native.Nat.{ℕ}
 use mathlib.Core.List.{List, [], _∷_}
 use mathlib.Core.Path.{refl}
-use lib.IntN.{ℤ, pos, negsuc}
+use lib.IntN.{pos, negsuc}
 use lib.Ieee.{binary64, toBits, ofInt, div}
 use Rattle.laws.specs.Tables.{Row, _gives_, AllHold}
 use Rattle.formula.specs.Answers.{missing}

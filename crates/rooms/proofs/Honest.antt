@@ -1,23 +1,19 @@
 -- Why a comparison is honest: by the cases of both channels, and by the distance of two values.
-use Prim.Native.Nat.{ℕ, zero, suc, _≤_, _<_}
+use Prim.Native.Nat.{ℕ, zero, suc}
 use native.Mathlib.Omega.{arith}
 use mathlib.Core.Bool.{Bool, true, false, cond}
 use mathlib.Core.Logic.{_⊎_, inl, inr}
-use mathlib.Core.Path.{_≡_, refl, sym, ap, subst, _∙_}
-use borrow.Author.Tests.{leb-true, leb-false, le-leb, lt-leb}
+use mathlib.Core.Path.{_≡_, refl, sym, ap, _∙_}
+use borrow.Author.Tests.{leb-true, leb-false, le-leb}
 use lib.Dec.{leb}
 use lib.IntN.{ℤ, pos, negsuc, negℤ, natAbs, _+ℤ_, _-ℤ_, negℤ-negℤ, negℤ-+ℤ, +ℤ-comm, +ℤ-invr}
 use Rattle.formula.specs.declared.Missing as missing
-use Rattle.compensation.specs.declared.Answer.{Answer}
 use Rattle.rooms.specs.declared.Whole.{Whole}
 use Rattle.rooms.specs.declared.Whole.the-variants.{Known, Missing}
-use Rattle.rooms.specs.declared.Verdict.{Verdict}
 use Rattle.rooms.specs.declared.Verdict.the-variants.{Agree, Differ, Unknown}
-use Rattle.rooms.specs.declared.Verdicts.{Verdicts}
-use Rattle.rooms.specs.declared.Tolerances.{Tolerances}
 use Rattle.rooms.specs.Points.{channelsOf}
 use Rattle.rooms.specs.Compared.{temperatureWhole, channelWhole, judged, comparedChannels, comparedRooms}
-use Rattle.rooms.specs.Honest.{Apart, IsMissing, Honest, HonestChannels, HonestRooms}
+use Rattle.rooms.specs.Honest.{Apart, IsMissing, Honest, WithItself, HonestChannels, OnlyHonest, HonestRooms}
 
 -- ---- cases that exclude each other
 
@@ -108,19 +104,30 @@ honest (Known a) (Known b) tolerance = judge a b tolerance (leb (natAbs (a -ℤ 
 honest (Known a) (Missing m) tolerance = nothing (Known a) (Missing m) (inr (record { what = m; is = refl })) tolerance
 honest (Missing m) two tolerance = nothing (Missing m) two (inl (record { what = m; is = refl })) tolerance
 
-pub honest-channels : HonestChannels comparedChannels
-honest-channels = record {
-  honest = honest;
-  symmetric = symmetric;
-  itself = λ a tolerance. ap (λ z. judged (natAbs z) tolerance) (+ℤ-invr a) ∙ rw (le-leb 0 tolerance (omega arith));
-  unknown-to-itself = λ m tolerance. refl;
+itself : (one : Whole) (tolerance : ℕ) → WithItself one (comparedChannels one one tolerance)
+itself (Known a) tolerance = record {
+  agree = λ e. ap (λ z. judged (natAbs z) tolerance) (+ℤ-invr a) ∙ rw (le-leb 0 tolerance (omega arith));
+  unknown = λ e. absurd (known-missing e);
 }
+itself (Missing m) tolerance = record { agree = λ e. absurd (known-missing (sym e)); unknown = λ e. refl }
+
+pub honest-channels : HonestChannels comparedChannels
+honest-channels = record { honest = honest; symmetric = symmetric; itself = itself }
+
+pub only-honest : OnlyHonest comparedChannels
+only-honest other h (Known a) (Known b) tolerance = go (leb (natAbs (a -ℤ b)) tolerance) refl
+  where
+    go : (near : Bool) → leb (natAbs (a -ℤ b)) tolerance ≡ near → other (Known a) (Known b) tolerance ≡ cond near Agree Differ
+    go true e = h .honest (Known a) (Known b) tolerance .agree (apart a b) (leb-true _ _ e)
+    go false e = h .honest (Known a) (Known b) tolerance .differ (apart a b) (leb-false _ _ e)
+only-honest other h (Known a) (Missing m) tolerance = h .honest (Known a) (Missing m) tolerance .unknown (inr (record { what = m; is = refl }))
+only-honest other h (Missing m) two tolerance = h .honest (Missing m) two tolerance .unknown (inl (record { what = m; is = refl }))
 
 pub honest-rooms : HonestRooms comparedRooms
 honest-rooms = record {
-  temperature = λ one two t. honest _ _ _;
-  pressure = λ one two t. honest _ _ _;
-  humidity = λ one two t. honest _ _ _;
+  honest = λ r s t. record { temperature = honest _ _ _; pressure = honest _ _ _; humidity = honest _ _ _ };
+  itself = λ r t. record { temperature = itself _ _; pressure = itself _ _; humidity = itself _ _ };
+  refused = λ n two t. refl;
   symmetric = λ one two t. rw (
     symmetric (temperatureWhole (channelsOf one .temperature)) (temperatureWhole (channelsOf two .temperature)) (t .temperature),
     symmetric (channelWhole (channelsOf one .pressure)) (channelWhole (channelsOf two .pressure)) (t .pressure),

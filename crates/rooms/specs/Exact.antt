@@ -41,6 +41,11 @@ pub record Means (bits sign value divisor : ℕ) : Type 0 where
   pub finite : exponent bits < 2047
   pub value-is : magnitude (exponent bits) (fraction bits) * divisor ≡ value * 2 ^ 1074
 
+-- no two patterns mean the same number with the same sign
+abbrev pub OnePattern : Type 0
+OnePattern =
+    (bits bits' sign value divisor : ℕ) → 0 < divisor → Means bits sign value divisor → Means bits' sign value divisor → bits ≡ bits'
+
 -- ---- what the map shows of a channel
 
 -- one that has a value: the cell is of its kind and has the point's double, which is the value exactly

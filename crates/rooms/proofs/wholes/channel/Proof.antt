@@ -1,5 +1,4 @@
 -- `rooms::wholes::channel` meets its contract: by the case of the answer.
-use Prim.Native.Nat.{_<_}
 use mathlib.Core.Path.{ap}
 use native.Mathlib.Omega.{arith}
 use mir.Facts.{toZ-pos}

@@ -1,7 +1,7 @@
 -- `rooms::wholes::distance` meets its contract: both numbers are raised by the same, so that they are as far apart as before.
 use Prim.Native.Nat.{ℕ, zero, suc, _-_, _<_, _≤_}
 use native.Mathlib.Omega.{arith}
-use mathlib.Core.Path.{_≡_, refl, sym, ap, _∙_}
+use mathlib.Core.Path.{_≡_, sym, ap, _∙_}
 use borrow.Author.Needs.{needs}
 use borrow.Author.Tests.{lt-ltb, le-ltb}
 use lib.IntN.{ℤ, pos, negℤ, natAbs, _+ℤ_, _-ℤ_, +ℤ-negℤ-cancel, +ℤ-assoc, +ℤ-comm, negℤ-+ℤ}
