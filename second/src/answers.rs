@@ -6,9 +6,11 @@ use crate::compensation::Reading;
 use crate::ledger::Ledger;
 use crate::machine::Closing;
 use crate::numbers::Number;
+use crate::rooms::{Cell, Double, Point, Verdict};
 use crate::waiting::Polling;
 
 const DIGITS: &[u8; 16] = b"0123456789ABCDEF";
+const LETTERS: [&str; 3] = ["t", " p", " h"];
 
 /// An answer being written at the end of the output.
 pub struct Answer<'a>(pub &'a mut Vec<u8>);
@@ -44,6 +46,23 @@ impl Answer<'_> {
             self.0.push(DIGITS[usize::from(byte & 0x0F)]);
         }
         self
+    }
+
+    /// Writes a double as the 16 hex digits of its bits.
+    /// The sign's digit comes first.
+    fn double(self, double: Double) -> Self {
+        self.bytes(&double.0.to_be_bytes())
+    }
+
+    /// Writes one map cell at its place.
+    /// A value is named by its kind, and a missing one by its place.
+    fn cell(self, place: usize, cell: Cell) -> Self {
+        match cell {
+            Cell::Temperature(double) => self.text("t=").double(double),
+            Cell::Pressure(double) => self.text(" p=").double(double),
+            Cell::Humidity(double) => self.text(" h=").double(double),
+            Cell::Missing(number) => self.text(LETTERS[place]).text("!").number(number),
+        }
     }
 
     /// Writes one kind of calibration words with their names.
@@ -103,6 +122,40 @@ pub fn reading(answer: Answer<'_>, reading: Reading) -> Answer<'_> {
     }
     let answer = answer.channel("p", reading.pressure);
     answer.channel("h", reading.humidity)
+}
+
+/// Writes a map point.
+/// The flags come after the doubles: 1 for a known channel, 0 for a missing one.
+pub fn point(answer: Answer<'_>, point: Point) -> Answer<'_> {
+    let mut answer = answer;
+    for (letter, double) in LETTERS.into_iter().zip(point.doubles) {
+        answer = answer.text(letter).text("=").double(double);
+    }
+    let [t, p, h] = point.known.map(u8::from);
+    let answer = answer.text(" known=").decimal(t).text(",").decimal(p);
+    answer.text(",").decimal(h)
+}
+
+/// Writes three map cells.
+/// They come as temperature, pressure, humidity.
+pub fn cells(answer: Answer<'_>, cells: [Cell; 3]) -> Answer<'_> {
+    let places = cells.into_iter().enumerate();
+    places.fold(answer, |answer, (place, cell)| answer.cell(place, cell))
+}
+
+/// Writes what the comparison of two rooms says.
+/// Each channel has its own word.
+pub fn verdicts(answer: Answer<'_>, verdicts: [Verdict; 3]) -> Answer<'_> {
+    let mut answer = answer;
+    for (letter, verdict) in LETTERS.into_iter().zip(verdicts) {
+        let word = match verdict {
+            Verdict::Agree => "=agree",
+            Verdict::Differ => "=differ",
+            Verdict::Unknown => "=unknown",
+        };
+        answer = answer.text(letter).text(word);
+    }
+    answer
 }
 
 /// Writes the microseconds of a waiting time.

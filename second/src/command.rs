@@ -1,5 +1,6 @@
 //! The commands of the bench's lines, read from a line's bytes.
 
+use crate::compensation::Input;
 use crate::words::{
     buffer_length, decimal, hex_bytes, split, three_decimals, two_digits, Reason, LONGEST_LINE,
 };
@@ -11,11 +12,13 @@ pub enum Command {
         one: Vec<u8>,
         two: Vec<u8>,
     },
-    Compensation {
-        one: Vec<u8>,
-        two: Vec<u8>,
-        data: Vec<u8>,
-        codes: [u64; 3],
+    Compensation(Input),
+    Point(Input),
+    Cells(Input),
+    Rooms {
+        one: Input,
+        other: Input,
+        tolerances: [u64; 3],
     },
     WaitMaximum([u64; 3]),
     WaitTypical([u64; 3]),
@@ -165,15 +168,32 @@ fn read_single(words: &[&[u8]], command: Command) -> Result<Command, Reason> {
     Ok(command)
 }
 
-/// Reads a compensation reading.
+/// Reads the six words of a reading.
 /// Codes out of range are read too; they have a number of their own.
-fn read_compensation(words: &[&[u8]]) -> Result<Command, Reason> {
+fn read_input(words: &[&[u8]]) -> Result<Input, Reason> {
+    Ok(Input {
+        one: hex_bytes(words[0])?,
+        two: hex_bytes(words[1])?,
+        data: hex_bytes(words[2])?,
+        codes: three_decimals(&words[3..])?,
+    })
+}
+
+/// Reads a command of one reading: it is compensated, or made a point or cells.
+/// The command is given by its name.
+fn read_one(words: &[&[u8]], command: fn(Input) -> Command) -> Result<Command, Reason> {
     check_count(words, 7)?;
-    Ok(Command::Compensation {
-        one: hex_bytes(words[1])?,
-        two: hex_bytes(words[2])?,
-        data: hex_bytes(words[3])?,
-        codes: three_decimals(&words[4..])?,
+    Ok(command(read_input(&words[1..])?))
+}
+
+/// Reads the comparison of two rooms.
+/// The tolerances come after both readings.
+fn read_rooms(words: &[&[u8]]) -> Result<Command, Reason> {
+    check_count(words, 16)?;
+    Ok(Command::Rooms {
+        one: read_input(&words[1..])?,
+        other: read_input(&words[7..])?,
+        tolerances: three_decimals(&words[13..])?,
     })
 }
 
@@ -214,7 +234,10 @@ pub fn read(line: &[u8]) -> Result<Command, Reason> {
     }
     let words = split(line);
     match words[0] {
-        b"comp" => read_compensation(&words),
+        b"comp" => read_one(&words, Command::Compensation),
+        b"point" => read_one(&words, Command::Point),
+        b"cells" => read_one(&words, Command::Cells),
+        b"rooms" => read_rooms(&words),
         b"wait" => read_wait(&words),
         b"i2c" => read_i2c(&words),
         b"spi" => read_spi(&words),

@@ -8,6 +8,16 @@ use crate::steps::Step;
 const HIGHEST_PRESSURE: i64 = 4_294_967_295;
 const HIGHEST_HUMIDITY: i64 = 419_430_400;
 
+/// What one reading is worked out from: both blocks, the eight bytes and the three codes.
+/// Lengths and codes may be wrong.
+#[derive(Clone, Debug, PartialEq, Eq)]
+pub struct Input {
+    pub one: Vec<u8>,
+    pub two: Vec<u8>,
+    pub data: Vec<u8>,
+    pub codes: [u64; 3],
+}
+
 /// A temperature in hundredths of a degree, and the fine temperature beside it.
 #[derive(Clone, Copy, Debug, PartialEq, Eq)]
 pub struct Temperature {
@@ -99,14 +109,14 @@ fn channel(
 
 /// Compensates one reading of both blocks, the eight bytes and the three codes.
 /// Length is checked first (2), then the codes (7).
-pub fn compensate(one: &[u8], two: &[u8], data: &[u8], codes: [u64; 3]) -> Result<Reading, Number> {
-    let words = calibration::read(one, two)?;
-    let data = <[u8; DATA]>::try_from(data).map_err(|_| Number::WrongLength)?;
-    if codes.iter().any(|code| *code > 7) {
+pub fn compensate(input: &Input) -> Result<Reading, Number> {
+    let words = calibration::read(&input.one, &input.two)?;
+    let data = <[u8; DATA]>::try_from(&input.data[..]).map_err(|_| Number::WrongLength)?;
+    if input.codes.iter().any(|code| *code > 7) {
         return Err(Number::OutOfRange);
     }
     let [t_count, p_count, h_count] = counts(data);
-    let [t_code, p_code, h_code] = codes;
+    let [t_code, p_code, h_code] = input.codes;
     let temperature = match t_code {
         0 => Err(Number::Skipped),
         _ => temperature(&words, t_count),

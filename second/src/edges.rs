@@ -1,8 +1,9 @@
 //! Readings and walks that stand exactly on an edge, found by search and kept as fixed lines.
 
 use crate::calibration::Words;
+use crate::compensation::Input;
 use crate::sheet::k2_words;
-use crate::spelling::reading;
+use crate::spelling::{asked, input};
 
 /// A reading that stands on an edge: its words, and the counts of temperature, pressure and humidity.
 /// Every channel is enabled.
@@ -12,9 +13,17 @@ pub struct Edge {
     pub counts: [u64; 3],
 }
 
+impl Edge {
+    /// Makes the reading that stands on the edge.
+    /// Every channel has code 1.
+    pub fn input(&self) -> Input {
+        input(&self.words, self.counts, [1, 1, 1])
+    }
+}
+
 /// Makes an edge of pressure out of K1's temperature and K2's words, with four words changed.
 /// P1 makes the pressure large or small, P7 brings the last line to the edge.
-fn pressed(p1: i64, p7: i64, p8: i64, p9: i64, count: u64) -> Edge {
+pub fn pressed(p1: i64, p7: i64, p8: i64, p9: i64, count: u64) -> Edge {
     let mut words = k2_words();
     words.p[0] = p1;
     words.p[6] = p7;
@@ -39,7 +48,7 @@ pub fn pressures() -> [Edge; 4] {
 
 /// Makes an edge of temperature alone.
 /// Pressure's divisor is zero, and humidity is 0.
-fn warmed(t: [i64; 3], count: u64) -> Edge {
+pub fn warmed(t: [i64; 3], count: u64) -> Edge {
     Edge {
         words: Words {
             t,
@@ -70,7 +79,7 @@ pub fn rounded_temperatures() -> [Edge; 2] {
 
 /// Makes an edge of humidity at the fine temperature (eighth * t2) >> 11.
 /// The eighth is that of temperature's count; T1 and T3 are 0.
-fn damped(t2: i64, eighth: u64, h: [i64; 6], count: u64) -> Edge {
+pub fn damped(t2: i64, eighth: u64, h: [i64; 6], count: u64) -> Edge {
     Edge {
         words: Words {
             t: [0, t2, 0],
@@ -140,18 +149,26 @@ fn walks() -> Vec<&'static str> {
     lines
 }
 
-/// Lists every edge as lines, in a fixed order.
-/// They end in the fresh state.
-pub fn lines() -> Vec<String> {
-    let edges = pressures()
+/// Lists every reading that stands on an edge, in a fixed order.
+/// The walks come after them.
+pub fn readings() -> Vec<Edge> {
+    pressures()
         .into_iter()
         .chain(products())
         .chain(rounded_temperatures())
         .chain(humid_steps())
         .chain(rounded_humidities())
-        .chain(divisors());
+        .chain(divisors())
+        .collect()
+}
+
+/// Lists every edge as lines, in a fixed order.
+/// They end in the fresh state.
+pub fn lines() -> Vec<String> {
+    let edges = readings();
     edges
-        .map(|edge| reading(&edge.words, edge.counts, [1, 1, 1]))
+        .iter()
+        .map(|edge| asked("comp", &edge.input()))
         .chain(walks().into_iter().map(String::from))
         .collect()
 }

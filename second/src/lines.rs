@@ -4,9 +4,10 @@ use crate::answers::{self, write, Answer};
 use crate::bus;
 use crate::calibration;
 use crate::command::{read, Command};
-use crate::compensation::compensate;
+use crate::compensation::{compensate, Input};
 use crate::machine::Machine;
 use crate::numbers::Number;
+use crate::rooms::{self, Channels};
 use crate::waiting::{poll, wait, MAXIMUM, TYPICAL};
 
 const FILLING: u8 = 0xAA;
@@ -27,6 +28,12 @@ fn lend<'a, T>(
     let mut buffer = vec![FILLING; length];
     let result = call(&mut buffer);
     write(answer, result, rest).text(" buf=").bytes(&buffer)
+}
+
+/// Gives the three channels of a reading, for the map room.
+/// A reading refused whole has three too.
+fn channels(input: &Input) -> Channels {
+    rooms::channels(compensate(input))
 }
 
 impl Default for Bench {
@@ -67,14 +74,16 @@ impl Bench {
             Command::Calibration { one, two } => {
                 write(answer, calibration::read(&one, &two), answers::calibration)
             }
-            Command::Compensation {
+            Command::Compensation(input) => write(answer, compensate(&input), answers::reading),
+            Command::Point(input) => answers::point(answer, rooms::point(&channels(&input))),
+            Command::Cells(input) => answers::cells(answer, rooms::cells(&channels(&input))),
+            Command::Rooms {
                 one,
-                two,
-                data,
-                codes,
+                other,
+                tolerances,
             } => {
-                let result = compensate(&one, &two, &data, codes);
-                write(answer, result, answers::reading)
+                let verdicts = rooms::compare(&channels(&one), &channels(&other), tolerances);
+                answers::verdicts(answer, verdicts)
             }
             Command::WaitMaximum(codes) => {
                 write(answer, wait(MAXIMUM, codes), answers::microseconds)

@@ -1,7 +1,7 @@
-//! The second program's commands: answer, generate, generate-comp, generate-events, sheet.
+//! The second program's commands: answer, generate and its three kinds, sheet.
 
 use second::generate::{Generator, Kind};
-use second::{edges, sheet, streams};
+use second::{edges, maps, sheet, streams};
 use std::io::{self, BufWriter, ErrorKind, Write};
 use std::process::ExitCode;
 
@@ -10,7 +10,8 @@ second answer < FILE                  answers the bench's lines
 second generate COUNT SEED            writes COUNT lines of every command
 second generate-comp COUNT SEED       writes COUNT compensation readings
 second generate-events COUNT SEED     writes COUNT machine events and ledgers
-second sheet                          writes K1 to K14, other figures and the edges
+second generate-rooms COUNT SEED      writes COUNT points, cells and comparisons of rooms
+second sheet                          writes K1 to K14, other figures, the edges and the rooms
 ";
 
 /// Answers all lines of standard input on standard output.
@@ -30,11 +31,11 @@ fn generate(kind: Kind, count: u64, seed: u64) -> io::Result<()> {
     output.flush()
 }
 
-/// Writes the lines of the sheet and of the edges to standard output.
+/// Writes the lines of the sheet, of the edges and of the rooms to standard output.
 /// Their order is fixed.
 fn sheet() -> io::Result<()> {
     let mut output = BufWriter::new(io::stdout().lock());
-    for line in sheet::lines().into_iter().chain(edges::lines()) {
+    for line in [sheet::lines(), edges::lines(), maps::lines()].concat() {
         writeln!(output, "{line}")?;
     }
     output.flush()
@@ -51,6 +52,7 @@ fn run(arguments: &[&str]) -> Option<io::Result<()>> {
                 "generate" => Kind::Everything,
                 "generate-comp" => Kind::Readings,
                 "generate-events" => Kind::Events,
+                "generate-rooms" => Kind::Rooms,
                 _ => return None,
             };
             Some(generate(kind, count.parse().ok()?, seed.parse().ok()?))

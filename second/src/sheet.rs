@@ -7,7 +7,7 @@ const K1_T: [i64; 3] = [27504, 26435, -1000];
 const K2_P: [i64; 9] = [36477, -10685, 3024, 2855, 140, -7, 15500, -14600, 6000];
 const K5_T: [i64; 3] = [0, 2048, 0];
 const K5_H: [i64; 6] = [75, 362, 0, 0, 0, 0];
-const K2_COUNTS: [u64; 3] = [519_888, 415_148, 0];
+pub const K2_COUNTS: [u64; 3] = [519_888, 415_148, 0];
 
 /// Gives the words of K1 and K2, with humidity's all 0.
 /// They are the sample words of source document 003 too.

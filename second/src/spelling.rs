@@ -2,6 +2,7 @@
 
 use crate::answers::Answer;
 use crate::calibration::{blocks, Words};
+use crate::compensation::Input;
 use crate::data;
 
 /// Spells bytes as hex pairs run together, with a dash for none.
@@ -18,16 +19,36 @@ pub fn cal(one: &[u8], two: &[u8]) -> String {
     format!("cal {} {}", hex(one), hex(two))
 }
 
-/// Spells a compensation reading from its bytes and codes.
+/// Makes a reading from its words, counts and codes.
+/// Words and counts go into their bytes.
+pub fn input(words: &Words, counts: [u64; 3], codes: [u64; 3]) -> Input {
+    let (one, two) = blocks(words);
+    Input {
+        one,
+        two,
+        data: data::bytes(counts).to_vec(),
+        codes,
+    }
+}
+
+/// Spells a command of one reading: comp, point or cells.
 /// Lengths and codes may be wrong.
-pub fn comp(one: &[u8], two: &[u8], data: &[u8], codes: [u64; 3]) -> String {
-    let [t, p, h] = codes;
-    format!("comp {} {} {} {t} {p} {h}", hex(one), hex(two), hex(data))
+pub fn asked(name: &str, input: &Input) -> String {
+    let [one, two, data] = [&input.one, &input.two, &input.data].map(|bytes| hex(bytes));
+    let [t, p, h] = input.codes;
+    format!("{name} {one} {two} {data} {t} {p} {h}")
 }
 
 /// Spells a compensation reading from its words, counts and codes.
-/// Words and counts go into their bytes.
+/// It is the most common command.
 pub fn reading(words: &Words, counts: [u64; 3], codes: [u64; 3]) -> String {
-    let (one, two) = blocks(words);
-    comp(&one, &two, &data::bytes(counts), codes)
+    asked("comp", &input(words, counts, codes))
+}
+
+/// Spells the comparison of two rooms.
+/// The tolerances come last.
+pub fn rooms(one: &Input, other: &Input, tolerances: [u64; 3]) -> String {
+    let [t, p, h] = tolerances;
+    let start = asked(&asked("rooms", one), other);
+    format!("{start} {t} {p} {h}")
 }

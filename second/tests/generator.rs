@@ -59,7 +59,7 @@ fn every_number_is_reached() {
 /// A shorter run is the start of a longer one.
 #[test]
 fn seeds_decide() {
-    for kind in [Kind::Everything, Kind::Readings, Kind::Events] {
+    for kind in [Kind::Everything, Kind::Readings, Kind::Events, Kind::Rooms] {
         let first = lines(kind, 5_000, 7);
         assert_eq!(first, lines(kind, 5_000, 7));
         assert_eq!(first[..1_000], lines(kind, 1_000, 7));
@@ -77,7 +77,7 @@ fn machines_agree() {
             mix = (mix ^ u64::from(byte)).wrapping_mul(0x0100_0000_01B3);
         }
     }
-    assert_eq!(mix, 12_755_676_533_553_810_986);
+    assert_eq!(mix, 14_828_101_901_994_784_820);
 }
 
 /// Each kind has its own commands only, and no line holds a newline.
@@ -92,6 +92,11 @@ fn kinds_have_their_commands() {
     assert!(lines(Kind::Readings, 10_000, 3)
         .iter()
         .all(|line| starts(line, &["comp"])));
+    let rooms = lines(Kind::Rooms, 10_000, 3);
+    assert!(rooms
+        .iter()
+        .all(|line| starts(line, &["point", "cells", "rooms"])));
+    assert!(!answers(&rooms).contains('?'));
     let walked = lines(Kind::Events, 20_000, 3);
     assert!(walked.iter().all(|line| starts(line, &events)));
     assert!(!answers(&walked).contains('?'));
@@ -99,10 +104,10 @@ fn kinds_have_their_commands() {
     assert!(all.iter().all(|line| !line.contains('\n')));
     let long = all.iter().filter(|line| line.len() > LONGEST_LINE).count();
     assert!((1..200).contains(&long), "{long}");
-    for name in ["cal", "comp", "wait", "poll", "i2c", "spi"]
-        .iter()
-        .chain(&events)
-    {
+    let others = [
+        "cal", "comp", "point", "cells", "rooms", "wait", "poll", "i2c", "spi",
+    ];
+    for name in others.iter().chain(&events) {
         assert!(all.iter().any(|line| starts(line, &[name])), "{name}");
     }
 }

@@ -53,6 +53,9 @@ fn unknown_words() {
         "?",
         "-",
         "comps 1 2 3",
+        "points - - - 1 1 1",
+        "Cells - - - 1 1 1",
+        "room - - - 1 1 1 - - - 1 1 1 0 0 0",
         "wait min 1 1 1",
         "wait ",
         "wait  max 1 1 1",
@@ -99,6 +102,17 @@ fn wrong_numbers_of_words() {
         "cal - - -",
         "comp - - - 1 1",
         "comp - - - 1 1 1 1",
+        "point",
+        "point - - - 1 1",
+        "point - - - 1 1 1 ",
+        "cells",
+        "cells - - - 1 1 1 1",
+        "cells  - - - 1 1 1",
+        "rooms",
+        "rooms - - - 1 1 1",
+        "rooms - - - 1 1 1 - - - 1 1 1 0 0",
+        "rooms - - - 1 1 1 - - - 1 1 1 0 0 0 0",
+        "rooms x x x x x x x x x x x x x x",
         "poll",
         "poll 1",
         "poll 1 00 00",
@@ -167,6 +181,16 @@ fn not_numbers() {
         "spi read F7 1\t",
         "comp - - - 1 1 x",
         "comp - - - 1 -1 1",
+        "point - - - 1 1 x",
+        "point  - - 1 1 1",
+        "cells - - 0G 1 1 1",
+        "cells - - - 4294967296 1 1",
+        "rooms - - - 1 1 x - - 0 1 1 1 0 0 0",
+        "rooms - - - 1 1 1 - G - 1 1 1 0 0 0",
+        "rooms - - - 1 1 1 - - - 1 1 1 -1 0 0",
+        "rooms - - - 1 1 1 - - - 1 1 1 0 1.5 0",
+        "rooms - - - 1 1 1 - - - 1 1 1 0 0 4294967296",
+        "rooms - - - 1 1 1 - - - 1 1 1 0 0 ",
         "close 99999999999",
     ];
     for line in lines {
@@ -183,6 +207,10 @@ fn odd_hex() {
         "cal 0 x",
         "cal - 123",
         "comp 0 - - 1 1 1",
+        "point - 0 - x 1 1",
+        "cells - - 655 1 1 1",
+        "rooms 0 - - x 1 1 - - - 1 1 1 0 0 0",
+        "rooms - - - 1 1 1 - - 0 x 1 1 0 0 x",
         "i2c write 76 F42 999",
         "i2c decode ECF 2",
         "spi write F 2",
@@ -232,6 +260,8 @@ fn other_readings_of_lines() {
          wait typ 0 0 4294967295 => 7
          wait max 8 0 0 => 7
          comp - - - 9 9 9 => 2
+         cells - - - 9 9 9 => t!2 p!2 h!2
+         rooms - aa - 1 1 1 - - Aa 8 1 1 4294967295 0 0000000000000001 => t=unknown p=unknown h=unknown
          i2c write 77 f427e0b6 6 => 0 n=5 buf=EEF427E0B6AA
          i2c read 76 fe 4 => 0 n=3 buf=ECFEEDAA
          write f4 2F => 5

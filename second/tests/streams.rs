@@ -70,8 +70,10 @@ fn long_lines() {
 fn binary_junk() {
     let mut random = Random::new(5);
     let junk = random.bytes(1 << 20);
-    let words: [&[u8]; 12] = [
+    let words: [&[u8]; 14] = [
         b"comp ",
+        b"point - - - ",
+        b"rooms - - - 1 1 1 - - - 1 1 1 ",
         b"wait max ",
         b"i2c write 76 ",
         b"spi decode ",

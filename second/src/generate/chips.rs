@@ -2,7 +2,7 @@
 
 use crate::calibration::Words;
 use crate::random::Random;
-use crate::sheet::{k2_words, k5_words};
+use crate::sheet::{k2_words, k5_words, zero_divisor_words};
 
 const SIGNED_EDGES: [i64; 10] = [-32768, -32767, -256, -1, 0, 1, 255, 256, 32766, 32767];
 const UNSIGNED_EDGES: [i64; 8] = [0, 1, 2, 255, 32767, 32768, 65534, 65535];
@@ -126,6 +126,33 @@ pub fn pressed(random: &mut Random) -> Words {
         _ => words.p[5] = random.between(-32_768, 32_767),
     }
     words
+}
+
+/// Makes chips that each lack a channel, with the counts that show it.
+/// They come as 12 in temperature, 12, 13 twice and 14 twice in pressure, and 12 in humidity.
+pub fn broken(random: &mut Random) -> [(Words, [u64; 3]); 7] {
+    let counts = [519_888, 415_148, random.below(1 << 16)];
+    let with = |place: usize, word: i64| {
+        let mut words = k2_words();
+        words.p[place] = word;
+        words
+    };
+    let mut hot = k5_words();
+    hot.t = [0, 1, random.between(-5, 5)];
+    let mut above = with(0, random.between(50, 200));
+    above.p[8] = 0;
+    let low = with(6, random.between(-32_768, -32_000));
+    let mut humid = k5_words();
+    humid.h[1] = random.between(1_024, 2_000);
+    [
+        (hot, [741_456, 0, 0]),
+        (with(5, 32_767), [0, 415_148, 0]),
+        (with(0, 0), counts),
+        (zero_divisor_words(), [0, 415_148, 0]),
+        (low, [519_888, 1_048_575, 0]),
+        (above, counts),
+        (humid, [614_400, 0, 8_192]),
+    ]
 }
 
 /// Makes words at K5's fine temperature whose humidity comes close to a limit.

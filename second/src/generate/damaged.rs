@@ -1,12 +1,16 @@
 //! Lines that are none of the commands, for each reason, and lines that just still are.
 
-use super::{buses, events, readings, times};
+use super::{buses, events, readings, rooms, times};
 use crate::random::Random;
 
-const UNKNOWN: [&str; 12] = [
+const UNKNOWN: [&str; 16] = [
     "POWER",
     "Byte",
     "comp2",
+    "Point - - - 1 1 1",
+    "points - - - 1 1 1",
+    "cell - - - 1 1 1",
+    "rooms2",
     "calibrate",
     "reset",
     "?",
@@ -27,7 +31,7 @@ const UNKNOWN_SECOND: [&str; 8] = [
     "spi reed F7 1",
     "i2c ",
 ];
-const NO_NUMBERS: [&str; 22] = [
+const NO_NUMBERS: [&str; 30] = [
     "wait max -1 0 0",
     "wait typ 1 +1 1",
     "wait max 1 1 1.0",
@@ -50,25 +54,38 @@ const NO_NUMBERS: [&str; 22] = [
     "finish 1 2 3\r",
     "i2c write 076 F427 3",
     "spi read -7 1",
+    "point - - 0G 1 1 1",
+    "point - - - 1 -1 1",
+    "cells - - - 1 1 4294967296",
+    "cells -- - - 1 1 1",
+    "rooms - - - 1 1 1 - - - 1 1 1 4294967296 0 0",
+    "rooms - - - 1 1 1 - - - 1 1 1 0 0 -1",
+    "rooms - - - 1 1 1 - - - 1 1 1 0 0.5 0",
+    "rooms - - - 1 1 x - - 0 1 1 1 0 0 0",
 ];
-const ODD: [&str; 6] = [
+const ODD: [&str; 10] = [
     "poll 1 0",
     "poll 1 08090",
     "i2c write 76 F42 3",
     "i2c decode ECF42 2",
     "spi write F 2",
     "cal 0 -",
+    "point - 0 - 1 1 1",
+    "cells 123 - - 1 1 1",
+    "rooms - - 0 1 1 1 - - - 1 1 1 0 0 x",
+    "rooms - - - 1 1 1 - - 655 1 1 1 0 0 0",
 ];
 const JUNK: &str = " -.,:;?!0189aFgGxX_\t\r\"'/éß−";
 
 /// Makes a line that is valid for the most part.
 /// It is of any subject.
 fn valid(random: &mut Random) -> String {
-    match random.below(5) {
+    match random.below(6) {
         0 => readings::reading(random),
         1 => times::wait(random),
         2 => times::poll(random),
         3 => buses::line(random),
+        4 => rooms::line(random),
         _ => events::any(random),
     }
 }
@@ -118,6 +135,10 @@ fn long(random: &mut Random) -> String {
         ("", "x", ""),
         ("", " ", ""),
         ("cal ", "00", " 00"),
+        ("point - ", "00", " - 1 1 1"),
+        ("cells - - - 1 1 ", "0", "1"),
+        ("rooms - - - 1 1 1 - - - 1 1 1 0 0 ", "0", "4294967295"),
+        ("rooms - - - 1 1 1 - - ", "00", " 1 1 1 0 0 0"),
     ]);
     let room = length - start.len() - end.len();
     let middle = filling.repeat(room / filling.len());

@@ -8,6 +8,7 @@ mod chips;
 mod damaged;
 mod events;
 mod readings;
+mod rooms;
 mod times;
 mod tour;
 mod walks;
@@ -24,6 +25,7 @@ pub enum Kind {
     Everything,
     Readings,
     Events,
+    Rooms,
 }
 
 /// The generator: its source, its own bench, and the lines not yet handed out.
@@ -74,6 +76,7 @@ impl Generator {
         match self.kind {
             Kind::Readings => self.readings(),
             Kind::Events => self.events(),
+            Kind::Rooms => self.rooms(),
             Kind::Everything if self.since_tour >= LINES_TO_TOUR => {
                 self.since_tour = 0;
                 self.tour();
@@ -104,12 +107,13 @@ impl Generator {
     /// Readings and walks take the most lines.
     fn anything(&mut self) {
         match self.random.below(100) {
-            0..=29 => self.readings(),
-            30..=34 => self.calibrations(),
-            35..=46 => self.waits(),
-            47..=58 => self.polls(),
-            59..=78 => self.buses(),
-            79..=89 => self.events(),
+            0..=22 => self.readings(),
+            23..=34 => self.rooms(),
+            35..=39 => self.calibrations(),
+            40..=50 => self.waits(),
+            51..=61 => self.polls(),
+            62..=79 => self.buses(),
+            80..=89 => self.events(),
             _ => self.damaged(),
         }
     }
@@ -127,6 +131,12 @@ impl Generator {
     /// It is long enough to be most of what is generated.
     fn readings(&mut self) {
         self.run(5, 25, readings::reading);
+    }
+
+    /// Writes a run of points, cells and comparisons of rooms.
+    /// None of them changes the machine.
+    fn rooms(&mut self) {
+        self.run(4, 16, rooms::line);
     }
 
     /// Writes a few calibration blocks.

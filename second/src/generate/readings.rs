@@ -2,10 +2,11 @@
 
 use super::chips;
 use crate::calibration::{blocks, Words, BLOCK_ONE, BLOCK_TWO};
+use crate::compensation::Input;
 use crate::data::{self, DATA};
 use crate::random::Random;
 use crate::sheet::zero_divisor_words;
-use crate::spelling::{cal, comp};
+use crate::spelling::{asked, cal};
 
 const COUNT_EDGES: [u64; 7] = [0, 1, 0x7FFFF, 0x80000, 0x80001, 0xFFFFE, 0xFFFFF];
 const HUMIDITY_EDGES: [u64; 7] = [0, 1, 0x7FFF, 0x8000, 0x8001, 0xFFFE, 0xFFFF];
@@ -13,7 +14,7 @@ const CODES_BEYOND: [u64; 6] = [8, 9, 255, 256, 65_535, 4_294_967_295];
 
 /// Makes counts as they come from rooms and hills.
 /// Temperature, pressure, humidity, as everywhere.
-fn real_counts(random: &mut Random) -> [u64; 3] {
+pub fn real_counts(random: &mut Random) -> [u64; 3] {
     [
         420_000 + random.below(180_000),
         230_000 + random.below(250_000),
@@ -128,16 +129,27 @@ fn damage(random: &mut Random, parts: &mut [Vec<u8>]) {
     parts[part].resize(length, 0x5A);
 }
 
-/// Makes a line to compensate one reading.
+/// Makes one reading.
 /// A few have damaged lengths.
-pub fn reading(random: &mut Random) -> String {
+pub fn input(random: &mut Random) -> Input {
     let mut parts = bytes(random);
     if random.percent(2) {
         damage(random, &mut parts);
     }
     let codes = codes(random);
     let [one, two, data] = parts;
-    comp(&one, &two, &data, codes)
+    Input {
+        one,
+        two,
+        data,
+        codes,
+    }
+}
+
+/// Makes a line to compensate one reading.
+/// Every outcome of a reading comes.
+pub fn reading(random: &mut Random) -> String {
+    asked("comp", &input(random))
 }
 
 /// Makes a line to read calibration blocks.

@@ -1,14 +1,16 @@
 //! A tour that reaches every number from 0 to 17 and every reason, by its making.
 
 use super::{chips, events, Generator};
+use crate::maps;
 use crate::sheet::{k2_words, k5_words, zero_divisor_words};
-use crate::spelling::reading;
+use crate::spelling::{asked, input, reading, rooms};
 
 impl Generator {
     /// Writes the tour, with seeded words and values where they don't matter.
     /// It ends in the fresh state.
     pub(super) fn tour(&mut self) {
         self.tour_of_readings();
+        self.tour_of_rooms();
         self.tour_of_buses();
         self.tour_of_events();
         self.tour_of_limit();
@@ -44,6 +46,25 @@ impl Generator {
         ];
         for line in lines {
             self.say(line);
+        }
+    }
+
+    /// Asks for the point and the cells of a reading of every outcome, and compares each with a real room.
+    /// The tolerances are 0 or the highest, so that both words come beside unknown.
+    fn tour_of_rooms(&mut self) {
+        let counts = [519_888, 415_148, self.random.below(1 << 16)];
+        let words = chips::real(&mut self.random);
+        let real = input(&words, counts, [1, 1, 1]);
+        let mut inputs = vec![real.clone(), input(&words, counts, [0, 1, 0])];
+        let broken = chips::broken(&mut self.random);
+        inputs.extend(broken.map(|(words, counts)| input(&words, counts, [1, 1, 1])));
+        inputs.extend(maps::refused());
+        for input in inputs {
+            let tolerances = [0; 3].map(|_: u64| self.random.pick(&[0, 4_294_967_295]));
+            self.say(asked("point", &input));
+            self.say(asked("cells", &input));
+            self.say(rooms(&input, &real, tolerances));
+            self.say(rooms(&input, &input, tolerances));
         }
     }
 
@@ -86,10 +107,15 @@ impl Generator {
         self.script("fresh 4294967294;copied;write F4 25;write F4 25;finish 1 2 3;ledger");
     }
 
-    /// Reaches each of the five reasons.
+    /// Reaches each of the five reasons, and those that the map room's lines can have.
     /// None of these lines changes anything.
     fn tour_of_reasons(&mut self) {
         self.script("nothing;byte 1;open G7;poll 1 080;close 257");
+        self.script("points - - - 1 1 1;point - - - 1 1;cells - - - 1 1 1 1;rooms");
+        self.script("point - - 0x 1 1 1;cells - 0 - 1 1 x;rooms - - - 1 1 1");
+        self.script("rooms - - - 1 1 1 - - - 1 1 1 0 0");
+        self.script("rooms - - - 1 1 1 - - - 1 1 1 0 4294967296 0");
+        self.script("rooms - - - 1 1 1 - 0 - 1 1 1 0 x 0");
     }
 
     /// Writes several lines that stand in one text.

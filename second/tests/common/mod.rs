@@ -4,7 +4,7 @@ use second::lines::Bench;
 
 /// Answers one line on a bench.
 /// The newline is taken off.
-fn answer(bench: &mut Bench, line: &str) -> String {
+pub fn answer(bench: &mut Bench, line: &str) -> String {
     let mut out = Vec::new();
     bench.answer(line.as_bytes(), &mut out);
     let text = String::from_utf8(out).expect("answers are text");
