@@ -4,7 +4,7 @@ use Rattle.rooms.proofs.compare_rooms.Statement.{statement}
 use Rattle.rooms.proofs.compare_rooms.Tie as tie
 
 returns : tie.Need-returns
-returns c = rw (c .compare-readings .ensures, c .before .channels2 .ensures, c .before .before .channels .ensures)
+returns c = rw (c .compare-readings .ensures, c .before .of2 .ensures, c .before .before .of .ensures)
 
 pub compare-rooms-spec : {M : Type 1} → statement M
 compare-rooms-spec = tie.close (tie.spec (λ c κs. search needs) (λ c κs. search needs) (λ c κs. search needs) returns)

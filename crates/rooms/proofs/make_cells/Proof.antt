@@ -9,7 +9,7 @@ returns c =
       c .humidity .ensures,
       c .before .pressure .ensures,
       c .before .before .temperature .ensures,
-      c .before .before .before .channels .ensures,
+      c .before .before .before .of .ensures,
     )
 
 pub make-cells-spec : {M : Type 1} → statement M

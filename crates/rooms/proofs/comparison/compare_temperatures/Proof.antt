@@ -1,7 +1,7 @@
--- `rooms::compare_temperatures` meets its contract: the whole numbers are compared.
+-- `rooms::comparison::compare_temperatures` meets its contract: the whole numbers are compared.
 use borrow.Author.Needs.{needs}
-use Rattle.rooms.proofs.compare_temperatures.Statement.{statement}
-use Rattle.rooms.proofs.compare_temperatures.Tie as tie
+use Rattle.rooms.proofs.comparison.compare_temperatures.Statement.{statement}
+use Rattle.rooms.proofs.comparison.compare_temperatures.Tie as tie
 
 returns : tie.Need-returns
 returns c = rw (c .compare-channels .ensures, c .before .temperature2 .ensures, c .before .before .temperature .ensures)

@@ -1,7 +1,7 @@
--- `rooms::compare_readings` meets its contract: channel by channel.
+-- `rooms::comparison::compare_readings` meets its contract: channel by channel.
 use borrow.Author.Needs.{needs}
-use Rattle.rooms.proofs.compare_readings.Statement.{statement}
-use Rattle.rooms.proofs.compare_readings.Tie as tie
+use Rattle.rooms.proofs.comparison.compare_readings.Statement.{statement}
+use Rattle.rooms.proofs.comparison.compare_readings.Tie as tie
 
 returns : tie.Need-returns
 returns c = rw (c .compare-levels2 .ensures, c .before .compare-levels .ensures, c .before .before .compare-temperatures .ensures)

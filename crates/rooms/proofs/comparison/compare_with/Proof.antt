@@ -1,10 +1,10 @@
--- `rooms::compare_with` meets its contract: by the case of the second channel.
+-- `rooms::comparison::compare_with` meets its contract: by the case of the second channel.
 use mir.Facts.{toZ-ofZ}
 use mir.Syntax.{w64}
 use mir.Val.{SFits}
 use borrow.Author.Needs.{needs}
-use Rattle.rooms.proofs.compare_with.Statement.{statement}
-use Rattle.rooms.proofs.compare_with.Tie as tie
+use Rattle.rooms.proofs.comparison.compare_with.Statement.{statement}
+use Rattle.rooms.proofs.comparison.compare_with.Tie as tie
 
 returns-2 : tie.Need-returns-2
 returns-2 c =
