@@ -1,6 +1,6 @@
 -- Why the map's doubles are exact: a whole number below 2 ^ 53 is a double, and so is it divided by a power of two.
 use Prim.Native.Nat.{ℕ, suc, _+_, _-_, _*_, _^_, _≤_, _<_}
-use native.Mathlib.Nat.{mul-assoc, mul-comm, mul-left-comm, mul-one, one-mul, le-of-lt, lt-of-lt-of-le, mul-pos}
+use native.Mathlib.Nat.{mul-assoc, mul-comm, one-mul, le-of-lt, lt-of-lt-of-le, mul-pos}
 use native.Mathlib.Omega.{arith}
 use mathlib.Core.Bool.{Bool, true, false}
 use mathlib.Core.Path.{_≡_, refl, ap, sym, subst, _∙_}
@@ -48,7 +48,7 @@ module _ (k n : ℕ) (small : n < 2 ^ 53) (few : k ≤ 1074) where
   divided (fin true m e) v = absurd (apart (v .0))
   divided (fin false m e) v =
       round-same binary64 false (m * up e * 1) (1 * 2 ^ k * down e) n (2 ^ k) (mul-pos (mul-pos (omega arith) (pow-pos k)) (down-pos e)) (pow-pos k)
-      (ap (λ m. m * 2 ^ k) (v .1) ∙ simp (mul-assoc, mul-comm, mul-left-comm, mul-one, one-mul))
+      (ap (λ m. m * 2 ^ k) (v .1) ∙ simp (mul-assoc, mul-comm, one-mul))
 
   over-value : HasValue (over k n) false n (2 ^ k)
   unfolding over ofInt
