@@ -1,46 +1,16 @@
 -- What a line is answered, and the machine afterwards: nothing for an empty line, and a newline after every answer.
 use Prim.Native.Nat.{ℕ}
 use mathlib.Core.List.{List}
-use lib.ListN.{replicate, take, drop}
-use Rattle.bus.specs.Writing.{encodedWrite, decodedWrite}
-use Rattle.bus.specs.Reading.{encodedRead}
-use Rattle.waiting.specs.Waiting.{waited, maximum, typical}
-use Rattle.waiting.specs.Polling.{polled}
+use lib.ListN.{replicate}
 use Rattle.machine.specs.declared.Machine.{Machine}
 use Rattle.machine.specs.Counts.{tallied}
 use Rattle.bench_page.specs.Page.{Page, _▹_}
 use Rattle.bench_command.specs.declared.Asked.{Asked}
 use Rattle.bench_command.specs.declared.Asked.the-variants as asks
-use Rattle.bench_command.specs.declared.Question.{Question}
-use Rattle.bench_command.specs.declared.Question.the-variants as the
 use Rattle.bench_command.specs.Commands.{asked}
 use Rattle.bench_phrases.specs.Phrases.{refused, ended}
-use Rattle.bench_reading.specs.Reading as reading
-use Rattle.bench_waiting.specs.Times as times
-use Rattle.bench_lent.specs.Lent.{lentOf}
-use Rattle.bench_bus.specs.Messages.{message}
+use Rattle.bench_question.specs.Questions.{replied}
 use Rattle.bench_machine.specs.Outcomes as outcomes
-
--- ---- blocks and data, laid one after another
-
-abbrev pub cal : ℕ → ℕ → List ℕ → List ℕ
-cal one two bytes = reading.cal (take one bytes) (take two (drop one bytes))
-
-abbrev pub comp : ℕ → ℕ → ℕ → ℕ → ℕ → ℕ → List ℕ → List ℕ
-comp one two raw t p h bytes =
-    reading.comp (take one bytes) (take two (drop one bytes)) (take raw (drop two (drop one bytes))) t p h
-
--- ---- each question, but for the newline
-
-abbrev pub replied : Question → List ℕ → List ℕ
-replied (the.Cal one two) bytes = cal one two bytes
-replied (the.Comp one two raw t p h) bytes = comp one two raw t p h bytes
-replied (the.WaitMaximum t p h) bytes = times.wait (waited maximum t p h)
-replied (the.WaitTypical t p h) bytes = times.wait (waited typical t p h)
-replied (the.Poll allowance status) bytes = times.poll (polled (take status bytes) allowance)
-replied (the.BusWrite device pairs room) bytes = message (encodedWrite device (take pairs bytes) (lentOf room))
-replied (the.BusDecode bus sent room) bytes = message (decodedWrite bus (take sent bytes) (lentOf room))
-replied (the.BusRead device register room) bytes = message (encodedRead device register (lentOf room))
 
 -- ---- what a line asks: each answer has its newline
 

@@ -7,9 +7,9 @@ use mathlib.Core.Path.{_≡_, refl, sym, ap, _∙_}
 use lib.ListN.{length, take, drop}
 use lib.Seq.{drop-drop}
 use Rattle.bench_command.specs.declared.Asked.{Asked}
-use Rattle.bench_command.specs.declared.Asked.the-variants as the
+use Rattle.bench_command.specs.declared.Shown.the-variants.{Rooms}
 use Rattle.bench_command.specs.Words as words
-use Rattle.bench_command.specs.Table.{Row, row, commands, fits, isOf, askedBy, refused, tried, texts, first, makeAt}
+use Rattle.bench_command.specs.Table.{Row, row, reading, commands, fits, isOf, askedBy, refused, tried, texts, first, makeAt}
 use Rattle.bench_command.proofs.Splitting.{part, next}
 
 none : (text : List ℕ) (others : List (List ℕ)) → texts [] ≡ text ∷ others → ⊥
@@ -75,14 +75,14 @@ nothing : (m : ℕ) → drop {A = Row} m [] ≡ []
 nothing zero = refl
 nothing (suc m) = refl
 
-single : (m : ℕ) (r : Row) → r .make ≡ (λ n. the.Ledger) → first (drop m (r ∷ [])) ≡ (λ n. the.Ledger)
+single : (m : ℕ) (r : Row) → r .make ≡ reading Rooms → first (drop m (r ∷ [])) ≡ reading Rooms
 single zero r e = e
 single (suc m) r e = ap first (nothing m)
 
-pub last : (number : ℕ) → 21 ≤ number → makeAt number ≡ (λ n. the.Ledger)
+pub last : (number : ℕ) → 24 ≤ number → makeAt number ≡ reading Rooms
 unfolding makeAt commands
 last number h =
-    let e : 21 + (number - 21) ≡ number = omega arith in
+    let e : 24 + (number - 24) ≡ number = omega arith in
     ap (λ (k : ℕ). first (drop k commands)) (sym e)
-    ∙ ap first (sym (drop-drop (number - 21) 21 commands))
-    ∙ single (number - 21) (row "ledger" (λ n. the.Ledger)) refl
+    ∙ ap first (sym (drop-drop (number - 24) 24 commands))
+    ∙ single (number - 24) (row "rooms B B B C C C B B B C C C D D D" (reading Rooms)) refl

@@ -1,4 +1,5 @@
 -- Lines read, by the definitions: each kind of command, each reason, and that the words decide in their order.
+use Prim.Native.Nat.{ℕ}
 use mathlib.Core.List.{[], _∷_}
 use mathlib.Core.Path.{_≡_, refl}
 use Rattle.bench_page.specs.Page.{letters}
@@ -9,16 +10,45 @@ use Rattle.bus.specs.declared.Bus.the-variants.{I2c, Spi}
 use Rattle.bus.specs.declared.Device.the-variants.{At, Selected}
 use Rattle.machine.specs.declared.Event.the-variants as events
 use Rattle.bench_command.specs.declared.Asked.the-variants.{Nothing, Refused, Question, Fresh, Event, Ledger}
+use Rattle.bench_command.specs.declared.Sent.{Sent}
+use Rattle.bench_command.specs.declared.Shown.the-variants.{Comp, Point, Cells, Rooms}
 use Rattle.bench_command.specs.declared.Question.the-variants as the
 use Rattle.bench_command.specs.Words as words
 use Rattle.bench_command.specs.Arguments as arguments
 use Rattle.bench_command.specs.Table as table
 use Rattle.bench_command.specs.Commands.{asked}
 
+abbrev two-readings : ℕ → ℕ → ℕ → ℕ → ℕ → ℕ → ℕ → ℕ → ℕ → ℕ → ℕ → ℕ → ℕ → ℕ → ℕ → Sent
+two-readings one two raw t p h three four more u q i temperature pressure humidity = record {
+  one = one;
+  two = two;
+  raw = raw;
+  t = t;
+  p = p;
+  h = h;
+  three = three;
+  four = four;
+  more = more;
+  u = u;
+  q = q;
+  i = i;
+  temperature = temperature;
+  pressure = pressure;
+  humidity = humidity;
+}
+
+abbrev one-reading : ℕ → ℕ → ℕ → ℕ → ℕ → ℕ → Sent
+one-reading one two raw t p h = two-readings one two raw t p h 0 0 0 0 0 0 0 0 0
+
 -- four bytes are lent, and nothing is written after the last byte read
 pub record Lines : Type 0 where
   pub cal : asked (letters "cal 0102 03") (9 ∷ 9 ∷ 9 ∷ 9 ∷ []) ≡ (Question (the.Cal 2 1), 1 ∷ 2 ∷ 3 ∷ 9 ∷ [])
-  pub comp : asked (letters "comp 01 - 02 1 7 256") (9 ∷ 9 ∷ 9 ∷ 9 ∷ []) ≡ (Question (the.Comp 1 0 1 1 7 255), 1 ∷ 2 ∷ 9 ∷ 9 ∷ [])
+  pub comp : asked (letters "comp 01 - 02 1 7 256") (9 ∷ 9 ∷ 9 ∷ 9 ∷ []) ≡ (Question (the.Reading Comp (one-reading 1 0 1 1 7 255)), 1 ∷ 2 ∷ 9 ∷ 9 ∷ [])
+  pub point : asked (letters "point - 01 0203 0 8 3") (9 ∷ 9 ∷ 9 ∷ 9 ∷ []) ≡ (Question (the.Reading Point (one-reading 0 1 2 0 8 3)), 1 ∷ 2 ∷ 3 ∷ 9 ∷ [])
+  pub cells : asked (letters "cells 01 02 - 1 2 3") (9 ∷ 9 ∷ 9 ∷ 9 ∷ []) ≡ (Question (the.Reading Cells (one-reading 1 1 0 1 2 3)), 1 ∷ 2 ∷ 9 ∷ 9 ∷ [])
+  pub rooms :
+      asked (letters "rooms 01 - 02 1 2 3 - 0304 - 4 5 6 7 8 4294967295") (9 ∷ 9 ∷ 9 ∷ 9 ∷ 9 ∷ [])
+      ≡ (Question (the.Reading Rooms (two-readings 1 0 1 1 2 3 0 2 0 4 5 6 7 8 4294967295)), 1 ∷ 2 ∷ 3 ∷ 4 ∷ 9 ∷ [])
   pub wait : asked (letters "wait max 5 4 3") [] ≡ (Question (the.WaitMaximum 5 4 3), [])
   pub wait-typical : asked (letters "wait typ 1 0 0") [] ≡ (Question (the.WaitTypical 1 0 0), [])
   pub poll : asked (letters "poll 2 080900") (9 ∷ 9 ∷ 9 ∷ 9 ∷ []) ≡ (Question (the.Poll 2 3), 8 ∷ 9 ∷ 0 ∷ 9 ∷ [])
@@ -51,13 +81,16 @@ pub record Lines : Type 0 where
   pub long-buffer : asked (letters "spi write F427 257") (9 ∷ 9 ∷ 9 ∷ []) ≡ (Refused TooLong, 0xF4 ∷ 0x27 ∷ 9 ∷ [])
 
 pub lines-read : Lines
-unfolding asked table.tried table.commands table.isOf table.fits table.askedBy words.count arguments.isArgument arguments.start arguments.stepped arguments.walked
+unfolding asked table.tried table.commands table.sent table.isOf table.fits table.askedBy words.count arguments.isArgument arguments.start arguments.stepped arguments.walked
     word reading.argument reading.number reading.octet reading.pair reading.secondDigit
     reading.decimal reading.readOn reading.bytes reading.wordLaid reading.isDash reading.pairsLaid reading.digitValue reading.letterValue
 lines-read =
     record {
       cal = refl;
       comp = refl;
+      point = refl;
+      cells = refl;
+      rooms = refl;
       wait = refl;
       wait-typical = refl;
       poll = refl;

@@ -11,6 +11,9 @@ use Rattle.bench_numbers.specs.declared.Reason.the-variants.{UnknownWord, Wrong
 use Rattle.bus.specs.declared.Bus.the-variants.{I2c, Spi}
 use Rattle.bus.specs.declared.Device.the-variants.{At, Selected}
 use Rattle.machine.specs.declared.Event.the-variants as events
+use Rattle.bench_command.specs.declared.Sent.{Sent}
+use Rattle.bench_command.specs.declared.Shown.{Shown}
+use Rattle.bench_command.specs.declared.Shown.the-variants.{Comp, Point, Cells, Rooms}
 use Rattle.bench_command.specs.declared.Question.{Question}
 use Rattle.bench_command.specs.declared.Question.the-variants as the
 use Rattle.bench_command.specs.declared.Asked.{Asked}
@@ -42,20 +45,32 @@ octet n k = (n at k) % 256
 abbrev pub long : List ℕ → ℕ → ℕ
 long n k = (n at k) % 4294967296
 
+-- the words of a reading or two
+unfoldable pub sent : List ℕ → Sent
+sent n = record {
+  one = n at 0;
+  two = n at 1;
+  raw = n at 2;
+  t = octet n 3;
+  p = octet n 4;
+  h = octet n 5;
+  three = n at 6;
+  four = n at 7;
+  more = n at 8;
+  u = octet n 9;
+  q = octet n 10;
+  i = octet n 11;
+  temperature = long n 12;
+  pressure = long n 13;
+  humidity = long n 14;
+}
+
+abbrev pub reading : Shown → List ℕ → Asked
+reading shown n = asks.Question (the.Reading shown (sent n))
+
 unfoldable pub commands : List Row
 commands =
-    question "cal B B" (λ n. the.Cal (n at 0) (n at 1))
-    ∷ question "comp B B B C C C" (λ n. the.Comp (n at 0) (n at 1) (n at 2) (octet n 3) (octet n 4) (octet n 5))
-    ∷ question "wait max C C C" (λ n. the.WaitMaximum (octet n 0) (octet n 1) (octet n 2))
-    ∷ question "wait typ C C C" (λ n. the.WaitTypical (octet n 0) (octet n 1) (octet n 2))
-    ∷ question "poll D B" (λ n. the.Poll (n at 0) (n at 1))
-    ∷ question "i2c write P B L" (λ n. the.BusWrite (At (octet n 0)) (n at 1) (n at 2))
-    ∷ question "i2c decode B L" (λ n. the.BusDecode I2c (n at 0) (n at 1))
-    ∷ question "i2c read P P L" (λ n. the.BusRead (At (octet n 0)) (octet n 1) (n at 2))
-    ∷ question "spi write B L" (λ n. the.BusWrite Selected (n at 0) (n at 1))
-    ∷ question "spi decode B L" (λ n. the.BusDecode Spi (n at 0) (n at 1))
-    ∷ question "spi read P L" (λ n. the.BusRead Selected (octet n 0) (n at 1))
-    ∷ row "fresh" (λ n. asks.Fresh 0)
+    row "fresh" (λ n. asks.Fresh 0)
     ∷ row "fresh D" (λ n. asks.Fresh (long n 0))
     ∷ row "power" (λ n. asks.Event events.Power)
     ∷ row "copied" (λ n. asks.Event events.Copied)
@@ -66,6 +81,20 @@ commands =
     ∷ row "byte" (λ n. asks.Event events.Byte)
     ∷ row "close L" (λ n. asks.Event (events.Close (n at 0)))
     ∷ row "ledger" (λ n. asks.Ledger)
+    ∷ question "cal B B" (λ n. the.Cal (n at 0) (n at 1))
+    ∷ question "wait max C C C" (λ n. the.WaitMaximum (octet n 0) (octet n 1) (octet n 2))
+    ∷ question "wait typ C C C" (λ n. the.WaitTypical (octet n 0) (octet n 1) (octet n 2))
+    ∷ question "poll D B" (λ n. the.Poll (n at 0) (n at 1))
+    ∷ question "i2c write P B L" (λ n. the.BusWrite (At (octet n 0)) (n at 1) (n at 2))
+    ∷ question "i2c decode B L" (λ n. the.BusDecode I2c (n at 0) (n at 1))
+    ∷ question "i2c read P P L" (λ n. the.BusRead (At (octet n 0)) (octet n 1) (n at 2))
+    ∷ question "spi write B L" (λ n. the.BusWrite Selected (n at 0) (n at 1))
+    ∷ question "spi decode B L" (λ n. the.BusDecode Spi (n at 0) (n at 1))
+    ∷ question "spi read P L" (λ n. the.BusRead Selected (octet n 0) (n at 1))
+    ∷ row "comp B B B C C C" (reading Comp)
+    ∷ row "point B B B C C C" (reading Point)
+    ∷ row "cells B B B C C C" (reading Cells)
+    ∷ row "rooms B B B C C C B B B C C C D D D" (reading Rooms)
     ∷ []
 
 -- ---- a row beside a line
@@ -120,7 +149,7 @@ texts [] = []
 texts (row ∷ rows) = row .text ∷ texts rows
 
 abbrev pub first : List Row → List ℕ → Asked
-first [] = λ n. asks.Ledger
+first [] = reading Rooms
 first (row ∷ rows) = row .make
 
 unfoldable pub makeAt : ℕ → List ℕ → Asked

@@ -4,6 +4,8 @@ ghost use Prim.Native.Nat.{_%_, _<_};
 ghost use Rattle.bench_command.specs.Table as table;
 use crate::Asked;
 use crate::Question;
+use crate::Sent;
+use crate::Shown;
 use crate::arguments::Outcome;
 use crate::arguments::Progress;
 use bus::Bus;
@@ -36,94 +38,130 @@ fn count(n: usize) -> u32
     (n % 4294967296) as u32
 }
 
+// The words of a reading or two.
+fn sent(numbers: [usize; 16]) -> Sent
+    ensures { λ r. ⌜ r ≡ table.sent numbers ⌝ }
+{
+    Sent {
+        one: numbers[0],
+        two: numbers[1],
+        raw: numbers[2],
+        t: octet(numbers[3]),
+        p: octet(numbers[4]),
+        h: octet(numbers[5]),
+        three: numbers[6],
+        four: numbers[7],
+        more: numbers[8],
+        u: octet(numbers[9]),
+        q: octet(numbers[10]),
+        i: octet(numbers[11]),
+        temperature: count(numbers[12]),
+        pressure: count(numbers[13]),
+        humidity: count(numbers[14]),
+    }
+}
+
 // What a row asks, with its numbers.
 fn command(row: usize, n: [usize; 16]) -> Asked
     ensures { λ r. ⌜ r ≡ table.makeAt row n ⌝ }
 {
-    if row < 11 {
-        return Asked::Question(question(row, n));
-    }
-    if row == 11 {
+    if row == 0 {
         return Asked::Fresh(0);
     }
-    if row == 12 {
+    if row == 1 {
         return Asked::Fresh(count(n[0]));
     }
-    if row < 21 {
+    if row < 10 {
         return Asked::Event(event(row, n));
     }
-    Asked::Ledger
-}
-
-// The question of a row.
-fn question(row: usize, n: [usize; 16]) -> Question
-    requires { ⌜ row < 11 ⌝ }
-    ensures { λ r. ⌜ Asked.Question r ≡ table.makeAt row n ⌝ }
-{
-    if row == 0 {
-        return Question::Cal(n[0], n[1]);
+    if row == 10 {
+        return Asked::Ledger;
     }
-    if row == 1 {
-        return Question::Comp(n[0], n[1], n[2], octet(n[3]), octet(n[4]), octet(n[5]));
-    }
-    if row == 2 {
-        return Question::WaitMaximum(octet(n[0]), octet(n[1]), octet(n[2]));
-    }
-    if row == 3 {
-        return Question::WaitTypical(octet(n[0]), octet(n[1]), octet(n[2]));
-    }
-    if row == 4 {
-        return Question::Poll(n[0], n[1]);
-    }
-    bus_question(row, n)
-}
-
-// The question of a row for a bus.
-fn bus_question(row: usize, n: [usize; 16]) -> Question
-    requires { ⌜ (4 < row) × (row < 11) ⌝ }
-    ensures { λ r. ⌜ Asked.Question r ≡ table.makeAt row n ⌝ }
-{
-    if row == 5 {
-        return Question::BusWrite(Device::At(octet(n[0])), n[1], n[2]);
-    }
-    if row == 6 {
-        return Question::BusDecode(Bus::I2c, n[0], n[1]);
-    }
-    if row == 7 {
-        return Question::BusRead(Device::At(octet(n[0])), octet(n[1]), n[2]);
-    }
-    if row == 8 {
-        return Question::BusWrite(Device::Selected, n[0], n[1]);
-    }
-    if row == 9 {
-        return Question::BusDecode(Bus::Spi, n[0], n[1]);
-    }
-    Question::BusRead(Device::Selected, octet(n[0]), n[1])
+    Asked::Question(question(row, n))
 }
 
 // The event of a row.
 fn event(row: usize, n: [usize; 16]) -> Event
-    requires { ⌜ (12 < row) × (row < 21) ⌝ }
+    requires { ⌜ (1 < row) × (row < 10) ⌝ }
     ensures { λ r. ⌜ Asked.Event r ≡ table.makeAt row n ⌝ }
 {
     match row {
-        13 => Event::Power,
-        14 => Event::Copied,
-        15 => Event::Write(octet(n[0]), octet(n[1])),
-        16 => Event::Finish(count(n[0]), count(n[1]), count(n[2])),
+        2 => Event::Power,
+        3 => Event::Copied,
+        4 => Event::Write(octet(n[0]), octet(n[1])),
+        5 => Event::Finish(count(n[0]), count(n[1]), count(n[2])),
         _ => later_event(row, n),
     }
 }
 
 // The event of a row, after a conversion's end.
 fn later_event(row: usize, n: [usize; 16]) -> Event
-    requires { ⌜ (16 < row) × (row < 21) ⌝ }
+    requires { ⌜ (5 < row) × (row < 10) ⌝ }
     ensures { λ r. ⌜ Asked.Event r ≡ table.makeAt row n ⌝ }
 {
     match row {
-        17 => Event::Wake,
-        18 => Event::Open(octet(n[0])),
-        19 => Event::Byte,
+        6 => Event::Wake,
+        7 => Event::Open(octet(n[0])),
+        8 => Event::Byte,
         _ => Event::Close(n[0]),
+    }
+}
+
+// The question of a row.
+fn question(row: usize, n: [usize; 16]) -> Question
+    requires { ⌜ 10 < row ⌝ }
+    ensures { λ r. ⌜ Asked.Question r ≡ table.makeAt row n ⌝ }
+{
+    if row == 11 {
+        return Question::Cal(n[0], n[1]);
+    }
+    if row == 12 {
+        return Question::WaitMaximum(octet(n[0]), octet(n[1]), octet(n[2]));
+    }
+    if row == 13 {
+        return Question::WaitTypical(octet(n[0]), octet(n[1]), octet(n[2]));
+    }
+    if row == 14 {
+        return Question::Poll(n[0], n[1]);
+    }
+    if row < 21 {
+        return bus_question(row, n);
+    }
+    Question::Reading(shown(row), sent(n))
+}
+
+// The question of a row for a bus.
+fn bus_question(row: usize, n: [usize; 16]) -> Question
+    requires { ⌜ (14 < row) × (row < 21) ⌝ }
+    ensures { λ r. ⌜ Asked.Question r ≡ table.makeAt row n ⌝ }
+{
+    if row == 15 {
+        return Question::BusWrite(Device::At(octet(n[0])), n[1], n[2]);
+    }
+    if row == 16 {
+        return Question::BusDecode(Bus::I2c, n[0], n[1]);
+    }
+    if row == 17 {
+        return Question::BusRead(Device::At(octet(n[0])), octet(n[1]), n[2]);
+    }
+    if row == 18 {
+        return Question::BusWrite(Device::Selected, n[0], n[1]);
+    }
+    if row == 19 {
+        return Question::BusDecode(Bus::Spi, n[0], n[1]);
+    }
+    Question::BusRead(Device::Selected, octet(n[0]), n[1])
+}
+
+// What a row shows of a reading.
+fn shown(row: usize) -> Shown
+    requires { ⌜ 20 < row ⌝ }
+    ensures { λ r. ⌜ table.makeAt row ≡ table.reading r ⌝ }
+{
+    match row {
+        21 => Shown::Comp,
+        22 => Shown::Point,
+        23 => Shown::Cells,
+        _ => Shown::Rooms,
     }
 }

@@ -12,12 +12,41 @@ mod rows;
 mod table;
 mod text;
 
+// The words of one reading or two in a line, zeros for what it lacks.
+pub struct Sent {
+    // Of the first: the lengths of the two blocks and of the data, and the three codes.
+    pub one: usize,
+    pub two: usize,
+    pub raw: usize,
+    pub t: u8,
+    pub p: u8,
+    pub h: u8,
+    // Of the second.
+    pub three: usize,
+    pub four: usize,
+    pub more: usize,
+    pub u: u8,
+    pub q: u8,
+    pub i: u8,
+    // The tolerances by which the two are compared.
+    pub temperature: u32,
+    pub pressure: u32,
+    pub humidity: u32,
+}
+
+// What is shown of a reading: its channels, its map point, its cells, or how it compares with a second.
+pub enum Shown {
+    Comp,
+    Point,
+    Cells,
+    Rooms,
+}
+
 // What the machine has no part in, with its values. Bytes are laid one after another where they are lent, and the question has their lengths.
 pub enum Question {
     // The lengths of the two blocks.
     Cal(usize, usize),
-    // The lengths of the two blocks and of the data, and the three codes.
-    Comp(usize, usize, usize, u8, u8, u8),
+    Reading(Shown, Sent),
     WaitMaximum(u8, u8, u8),
     WaitTypical(u8, u8, u8),
     // The allowance, and the length of the status.
@@ -57,18 +86,7 @@ pub fn read(line: &[u8], lent: &mut [u8]) -> Asked
     }
     // The commands, in the order of their numbers: B stands for bytes, C for a code, D for a decimal, L for a buffer's length, P for a pair.
     table::find(
-        b"cal B B;\
-        comp B B B C C C;\
-        wait max C C C;\
-        wait typ C C C;\
-        poll D B;\
-        i2c write P B L;\
-        i2c decode B L;\
-        i2c read P P L;\
-        spi write B L;\
-        spi decode B L;\
-        spi read P L;\
-        fresh;\
+        b"fresh;\
         fresh D;\
         power;\
         copied;\
@@ -78,7 +96,21 @@ pub fn read(line: &[u8], lent: &mut [u8]) -> Asked
         open P;\
         byte;\
         close L;\
-        ledger;",
+        ledger;\
+        cal B B;\
+        wait max C C C;\
+        wait typ C C C;\
+        poll D B;\
+        i2c write P B L;\
+        i2c decode B L;\
+        i2c read P P L;\
+        spi write B L;\
+        spi decode B L;\
+        spi read P L;\
+        comp B B B C C C;\
+        point B B B C C C;\
+        cells B B B C C C;\
+        rooms B B B C C C B B B C C C D D D;",
         line,
         lent,
     )

@@ -11,7 +11,6 @@ use Rattle.formula.specs.declared.ChannelAnswer.the-variants as the
 use Rattle.compensation.specs.declared.Answer.{Answer}
 use Rattle.compensation.specs.declared.Answer.the-variants.{Done, Refused}
 use Rattle.compensation.specs.declared.Reading.{Reading}
-use Rattle.compensation.specs.Compensation.{compensated}
 use Rattle.bench_page.specs.Page.{letters}
 use Rattle.bench_page.specs.Digits.{decimal}
 use Rattle.bench_row.specs.Row.{filled, filledSigned}
@@ -46,6 +45,3 @@ reading r = temperature (r .temperature) ++ (channel (letters "p") (r .pressure)
 abbrev pub answered : Answer → List ℕ
 answered (Refused number) = decimal number
 answered (Done r) = reading r
-
-abbrev pub comp : List ℕ → List ℕ → List ℕ → ℕ → ℕ → ℕ → List ℕ
-comp first second bytes t p h = answered (compensated first second bytes t p h)

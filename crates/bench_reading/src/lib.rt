@@ -15,24 +15,8 @@ pub fn cal(one: &[u8], two: &[u8], out: &mut [u8], at: usize) -> usize
     bench_calibration::write_calibration(calibration::calibrate(one, two), out, at)
 }
 
-// Writes the reading of two blocks and the data bytes at three codes, or the number that refuses it.
-pub fn comp(
-    one: &[u8],
-    two: &[u8],
-    bytes: &[u8],
-    t: u8,
-    p: u8,
-    h: u8,
-    out: &mut [u8],
-    at: usize,
-) -> usize
-    ensures { λ r. ⌜ (now (out .exit), r) ≡ (now (out .entry), at) ▹ text.comp (now (one .entry)) (now (two .entry)) (now (bytes .entry)) t p h ⌝ }
-{
-    write_answer(compensation::compensate(one, two, bytes, t, p, h), out, at)
-}
-
 // Writes a reading, or the number that refuses it.
-fn write_answer(answer: Answer, out: &mut [u8], at: usize) -> usize
+pub fn comp(answer: Answer, out: &mut [u8], at: usize) -> usize
     ensures { λ r. ⌜ (now (out .exit), r) ≡ (now (out .entry), at) ▹ text.answered answer ⌝ }
 {
     match answer {

@@ -18,11 +18,10 @@ returns-3 c = rw (c .before .before .before .if3 .taken, c .octet6 .ensures, c .
 
 returns-4 : tie.Need-returns-4
 unfolding commands makeAt
-returns-4 c = rw (c .before .before .before .if4 .taken, c .octet9 .ensures, c .before .octet8 .ensures, c .before .before .octet7 .ensures)
+returns-4 c = rw (c .if4 .taken)
 
-returns-5 : tie.Need-returns-5
-unfolding commands makeAt
-returns-5 c = rw (c .if5 .taken)
+returns-6 : tie.Need-returns-6
+returns-6 c = rw (c .before .shown .ensures, c .sent .ensures)
 
 pub question-spec : {M : Type 1} → statement M
 question-spec =
@@ -31,9 +30,6 @@ question-spec =
     (λ c. search needs)
     (λ c. search needs)
     returns
-    (λ c. search needs)
-    (λ c. search needs)
-    (λ c. search needs)
     (λ c. search needs)
     (λ c κs. search needs)
     (λ c. search needs)
@@ -49,14 +45,10 @@ question-spec =
     (λ c κs. search needs)
     returns-3
     (λ c. search needs)
-    (λ c κs. search needs)
     (λ c. search needs)
-    (λ c κs. search needs)
-    (λ c. search needs)
-    (λ c κs. search needs)
     returns-4
-    (λ c. search needs)
-    (λ c. search needs)
-    returns-5
     (λ c κs. search needs)
-    (λ c. search needs))
+    (λ c. search needs)
+    (λ c κs. search needs)
+    (λ c κs. search needs)
+    returns-6)

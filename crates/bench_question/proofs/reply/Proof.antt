@@ -1,7 +1,7 @@
 -- The answer, and then the newline.
 use borrow.Author.Needs.{needs}
-use Rattle.bench.proofs.lines.reply.Statement.{statement}
-use Rattle.bench.proofs.lines.reply.Tie as tie
+use Rattle.bench_question.proofs.reply.Statement.{statement}
+use Rattle.bench_question.proofs.reply.Tie as tie
 
 returns : tie.Need-returns
 returns c = rw (c .before .before .end .ensures, c .before .before .before .before .before .before .write-reply .ensures)

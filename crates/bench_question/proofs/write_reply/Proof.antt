@@ -1,13 +1,13 @@
 -- The cases of the definition.
 use borrow.Author.Needs.{needs}
-use Rattle.bench.proofs.lines.write_reply.Statement.{statement}
-use Rattle.bench.proofs.lines.write_reply.Tie as tie
+use Rattle.bench_question.proofs.write_reply.Statement.{statement}
+use Rattle.bench_question.proofs.write_reply.Tie as tie
 
 returns : tie.Need-returns
 returns c = rw (c .before .before .before .before .before .question .given .1, c .before .before .cal .ensures)
 
 returns-2 : tie.Need-returns-2
-returns-2 c = rw (c .before .before .before .before .before .question2 .given .1, c .before .before .comp .ensures)
+returns-2 c = rw (c .before .before .before .before .before .question2 .given .1, c .before .before .reading .ensures)
 
 returns-3 : tie.Need-returns-3
 returns-3 c = rw (c .before .before .before .before .before .question3 .given .1, c .before .before .wait-maximum .ensures)

@@ -1,7 +1,7 @@
 -- The parts of the bytes, in their order.
 use borrow.Author.Needs.{needs}
-use Rattle.bench.proofs.lines.cal.Statement.{statement}
-use Rattle.bench.proofs.lines.cal.Tie as tie
+use Rattle.bench_question.proofs.cal.Statement.{statement}
+use Rattle.bench_question.proofs.cal.Tie as tie
 
 returns : tie.Need-returns
 returns c =

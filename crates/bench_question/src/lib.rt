@@ -1,0 +1,119 @@
+// What a question is answered: each room's answer, with the bytes of the question's words.
+ghost use mathlib.Core.Path.{_≡_};
+ghost use Rattle.bench_page.specs.Page.{_▹_};
+ghost use Rattle.bench_phrases.specs.Phrases.{ended};
+ghost use Rattle.bench_question.specs.Questions as text;
+use bench_bytes::front;
+use bench_bytes::rest;
+use bench_command::Question;
+use bench_command::Sent;
+use bench_command::Shown;
+use compensation::Answer;
+use rooms::Tolerances;
+use rooms::Verdicts;
+
+// Answers a question, and writes a newline.
+pub fn reply(question: Question, bytes: &[u8], out: &mut [u8], at: usize) -> usize
+    ensures { λ r. ⌜ (now (out .exit), r) ≡ ended ((now (out .entry), at) ▹ text.replied question (now (bytes .entry))) ⌝ }
+{
+    let next = write_reply(question, bytes, out, at);
+    bench_phrases::end(out, next)
+}
+
+// Answers a question, but for the newline.
+fn write_reply(question: Question, bytes: &[u8], out: &mut [u8], at: usize) -> usize
+    ensures { λ r. ⌜ (now (out .exit), r) ≡ (now (out .entry), at) ▹ text.replied question (now (bytes .entry)) ⌝ }
+{
+    match question {
+        Question::Cal(one, two) => cal(one, two, bytes, out, at),
+        Question::Reading(shown, sent) => reading(shown, sent, bytes, out, at),
+        Question::WaitMaximum(t, p, h) => bench_waiting::wait_maximum(t, p, h, out, at),
+        Question::WaitTypical(t, p, h) => bench_waiting::wait_typical(t, p, h, out, at),
+        Question::Poll(allowance, status) => bench_waiting::poll(
+            front(bytes, status),
+            allowance,
+            out,
+            at,
+        ),
+        Question::BusWrite(device, pairs, room) => bench_bus::write(
+            device,
+            front(bytes, pairs),
+            room,
+            out,
+            at,
+        ),
+        Question::BusDecode(bus, message, room) => bench_bus::decode(
+            bus,
+            front(bytes, message),
+            room,
+            out,
+            at,
+        ),
+        Question::BusRead(device, register, room) => bench_bus::read(
+            device,
+            register,
+            room,
+            out,
+            at,
+        ),
+    }
+}
+
+// The words of two blocks, which are laid one after the other.
+fn cal(one: usize, two: usize, bytes: &[u8], out: &mut [u8], at: usize) -> usize
+    ensures { λ r. ⌜ (now (out .exit), r) ≡ (now (out .entry), at) ▹ text.cal one two (now (bytes .entry)) ⌝ }
+{
+    bench_reading::cal(front(bytes, one), front(rest(bytes, one), two), out, at)
+}
+
+// What is shown of a reading.
+fn reading(shown: Shown, sent: Sent, bytes: &[u8], out: &mut [u8], at: usize) -> usize
+    ensures { λ r. ⌜ (now (out .exit), r) ≡ (now (out .entry), at) ▹ text.reading shown sent (now (bytes .entry)) ⌝ }
+{
+    let answer = compensate(sent.one, sent.two, sent.raw, sent.t, sent.p, sent.h, bytes);
+    match shown {
+        Shown::Comp => bench_reading::comp(answer, out, at),
+        Shown::Point => bench_rooms::point(rooms::make_point(answer), out, at),
+        Shown::Cells => bench_rooms::cells(rooms::make_cells(answer), out, at),
+        Shown::Rooms => bench_rooms::verdicts(compare(answer, sent, bytes), out, at),
+    }
+}
+
+// How a reading compares with the second, whose bytes follow its own.
+fn compare(answer: Answer, sent: Sent, bytes: &[u8]) -> Verdicts
+    ensures { λ r. ⌜ r ≡ text.compared answer sent (now (bytes .entry)) ⌝ }
+{
+    let after = rest(rest(rest(bytes, sent.one), sent.two), sent.raw);
+    rooms::compare_rooms(
+        answer,
+        compensate(
+            sent.three,
+            sent.four,
+            sent.more,
+            sent.u,
+            sent.q,
+            sent.i,
+            after,
+        ),
+        Tolerances {
+            temperature: sent.temperature,
+            pressure: sent.pressure,
+            humidity: sent.humidity,
+        },
+    )
+}
+
+// The reading of two blocks and the data, which are laid one after another, at three codes.
+fn compensate(one: usize, two: usize, raw: usize, t: u8, p: u8, h: u8, bytes: &[u8]) -> Answer
+    ensures { λ r. ⌜ r ≡ text.answer one two raw t p h (now (bytes .entry)) ⌝ }
+{
+    let after = rest(bytes, one);
+    compensation::compensate(
+        front(bytes, one),
+        front(after, two),
+        front(rest(after, two), raw),
+        t,
+        p,
+        h,
+    )
+}

@@ -1,0 +1,34 @@
+-- The three doubles in their order, and then the flags.
+use Rattle.bench_page.proofs.Laws.{joined}
+use Rattle.bench_rooms.proofs.Laws.{three, flagged}
+use Rattle.bench_rooms.specs.Map.{point}
+use borrow.Author.Needs.{needs}
+use mathlib.Core.Path.{refl}
+use Rattle.bench_rooms.proofs.point.Statement.{statement}
+use Rattle.bench_rooms.proofs.point.Tie as tie
+
+returns : tie.Need-returns
+unfolding point
+returns c =
+    let h = c .before .before .before .before .before .before .before .before .before .before .before in
+    let p = h .before .before .before .before .before .before .before .before in
+    three _ _ _ _ (p .before .before .before .before .before .before .before .before .write-double .ensures) (p .before .before .before .before .write-byte .ensures) (p .write-double2 .ensures) (h .before .before .before .before .write-byte2 .ensures)
+    (joined _ _ _ (h .write-double3 .ensures) (rw (flagged, flagged, flagged) at (c .before .before .fill .ensures)))
+
+pub point-spec : {M : Type 1} → statement M
+point-spec =
+    tie.close
+    (tie.spec
+    (λ c κs. tt)
+    (λ c κs. tt)
+    (λ c κs. tt)
+    (λ c κs. tt)
+    (λ c κs. tt)
+    (λ c. refl)
+    (λ c. search needs)
+    (λ c. search needs)
+    (λ c. search needs)
+    (λ c. refl)
+    (λ c κs. tt)
+    (λ c. search needs)
+    returns)

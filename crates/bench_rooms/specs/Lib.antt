@@ -1,0 +1,3 @@
+-- Points, cells and verdicts as text.
+pub mod Map
+pub mod Examples
