@@ -1,8 +1,9 @@
 /* Onegrish for C and firmware: what a BME280's bytes say, exactly, and which of them say nothing.
  *
  * The library is proved: each function below does what its comment says, for all input that fits the types. It is built
- * for x86-64 Linux alone. Link libonegrish.a (`rt staticlib onegrish`), and for the two functions over kept words
- * libonegrish_words.a (`rt staticlib onegrish_words`).
+ * for x86-64 Linux alone. Link libonegrish.a (`rt staticlib onegrish`), for the two functions over kept words
+ * libonegrish_words.a (`rt staticlib onegrish_words`), and for the three on map points and rooms libonegrish_rooms.a
+ * (`rt staticlib onegrish_rooms`).
  *
  * Every function ends, allocates nothing, keeps no state and calls nothing. Any number of threads may call it.
  *
@@ -10,9 +11,9 @@
  * written through it. Any other pointer must be valid for as many elements as its number says, and what a function
  * writes must not overlap anything else that it is lent. A pointer with no number beside it must be valid for one element.
  *
- * Each function but onegrish_version and onegrish_polls answers one of the numbers below. Nothing is written unless it
- * answers ONEGRISH_DONE, and elements past the output stay as they were. Where several numbers would fit, the first in
- * the order that the function's comment gives is answered.
+ * Each function but onegrish_version, onegrish_polls and onegrish_compare answers one of the numbers below. Nothing is
+ * written unless it answers ONEGRISH_DONE, and elements past the output stay as they were. Where several numbers would
+ * fit, the first in the order that the function's comment gives is answered.
  */
 #ifndef ONEGRISH_H
 #define ONEGRISH_H
@@ -49,6 +50,12 @@ uint32_t onegrish_version(void);
 #define ONEGRISH_DIVISOR_ZERO 13        /* the pressure's divisor is zero */
 #define ONEGRISH_PRESSURE_OUTSIDE 14    /* a pressure that is negative or above 4,294,967,295 */
 
+/* ---- verdicts on two rooms; an array that was zeroed and never written says unknown, and never that they agree */
+
+#define ONEGRISH_UNKNOWN 0      /* one of the two has no value */
+#define ONEGRISH_AGREE 1        /* both have a value, and the values differ by at most the tolerance */
+#define ONEGRISH_DIFFER 2       /* both have a value, and the values differ by more */
+
 /* ---- lengths */
 
 #define ONEGRISH_BLOCK_ONE 26   /* bytes of calibration block one, registers 0x88 to 0xA1 */
@@ -57,13 +64,15 @@ uint32_t onegrish_version(void);
 #define ONEGRISH_WORDS 18       /* words of a chip */
 #define ONEGRISH_NUMBERS 3      /* numbers of a reading: temperature, pressure, humidity */
 #define ONEGRISH_VALUES 4       /* values of a reading: temperature, fine temperature, pressure, humidity */
+#define ONEGRISH_POINT 3        /* doubles of a map point, its flags and its numbers: temperature, pressure, humidity */
+#define ONEGRISH_VERDICTS 3     /* verdicts on two rooms: temperature, pressure, humidity */
 #define ONEGRISH_MOST_PAIRS 16  /* pairs of register and value in one message */
 #define ONEGRISH_LONGEST 33     /* bytes of the longest message: the address and 16 pairs on I2C */
 #define ONEGRISH_I2C_READ 3     /* bytes of both messages of an I2C read; the first is ONEGRISH_I2C_READ_FIRST long */
 #define ONEGRISH_I2C_READ_FIRST 2
 #define ONEGRISH_SPI_READ 1     /* bytes of an SPI read */
 
-/* ---- places in words, numbers and values */
+/* ---- places in words, numbers and values, in a point's three arrays and in verdicts */
 
 enum {
     ONEGRISH_T1, ONEGRISH_T2, ONEGRISH_T3,
@@ -72,6 +81,8 @@ enum {
 };
 enum { ONEGRISH_NUMBER_T, ONEGRISH_NUMBER_P, ONEGRISH_NUMBER_H };
 enum { ONEGRISH_VALUE_T, ONEGRISH_VALUE_FINE, ONEGRISH_VALUE_P, ONEGRISH_VALUE_H };
+enum { ONEGRISH_POINT_T, ONEGRISH_POINT_P, ONEGRISH_POINT_H };
+enum { ONEGRISH_VERDICT_T, ONEGRISH_VERDICT_P, ONEGRISH_VERDICT_H };
 
 /* ---- addresses and codes of the device */
 
@@ -131,6 +142,46 @@ uint8_t onegrish_words(const uint8_t *one, size_t one_length, const uint8_t *two
 uint8_t onegrish_compensate_words(const int16_t *words, size_t words_length, const uint8_t *bytes, size_t bytes_length,
                                   uint8_t t, uint8_t p, uint8_t h, uint8_t *numbers, size_t numbers_length,
                                   int64_t *values, size_t values_length);
+
+/* ---- map points, and two rooms compared: in libonegrish_rooms.a */
+
+/* The map point of one reading, out of the same bytes and codes as for onegrish_compensate, at the front of each array.
+ * A reading that onegrish_compensate refuses is a point too, one with three missing: an old point is never left standing.
+ *
+ * ONEGRISH_BUFFER_TOO_SHORT: fewer than 3 doubles, 3 flags or 3 numbers are lent.
+ * ONEGRISH_DONE: of temperature, pressure and humidity
+ *   doubles[0..2]  the value in hundredths of a degree Celsius, in Pa and in %RH, exactly; positive zero where it is missing
+ *   known[0..2]    1 where it has a value, 0 where it is missing: a double of zero with 1 is a true zero
+ *   numbers[0..2]  ONEGRISH_DONE where it has a value, and else what stands in its place (ONEGRISH_SKIPPED to
+ *                  ONEGRISH_PRESSURE_OUTSIDE); in all three ONEGRISH_WRONG_LENGTH for bytes that are not 26, 7 and 8, and
+ *                  ONEGRISH_OUT_OF_RANGE for a code above 7 */
+uint8_t onegrish_point(const uint8_t *one, size_t one_length, const uint8_t *two, size_t two_length,
+                       const uint8_t *bytes, size_t bytes_length, uint8_t t, uint8_t p, uint8_t h,
+                       double *doubles, size_t doubles_length, uint8_t *known, size_t known_length,
+                       uint8_t *numbers, size_t numbers_length);
+
+/* The verdict on one channel of two rooms, ONEGRISH_UNKNOWN, ONEGRISH_AGREE or ONEGRISH_DIFFER, out of the number and the
+ * value of each as onegrish_compensate hands them over, and the tolerance in the values' unit. A value whose number is not
+ * ONEGRISH_DONE is not looked at. It answers no number of those above, and refuses nothing. */
+uint8_t onegrish_compare(uint8_t here_number, int64_t here_value, uint8_t there_number, int64_t there_value,
+                         uint32_t tolerance);
+
+/* The three verdicts on two rooms, at the front of verdicts, out of a reading of each and the tolerances of temperature in
+ * hundredths of a degree, of pressure in Pa times 256 and of humidity in %RH times 1024. A reading that onegrish_compensate
+ * refuses has no value, so that all three are ONEGRISH_UNKNOWN.
+ *
+ * ONEGRISH_BUFFER_TOO_SHORT: fewer than 3 verdicts are lent.
+ * ONEGRISH_DONE: verdicts[0..2] are those on temperature, pressure and humidity, as onegrish_compare answers them. */
+uint8_t onegrish_compare_rooms(const uint8_t *here_one, size_t here_one_length,
+                               const uint8_t *here_two, size_t here_two_length,
+                               const uint8_t *here_bytes, size_t here_bytes_length,
+                               uint8_t here_t, uint8_t here_p, uint8_t here_h,
+                               const uint8_t *there_one, size_t there_one_length,
+                               const uint8_t *there_two, size_t there_two_length,
+                               const uint8_t *there_bytes, size_t there_bytes_length,
+                               uint8_t there_t, uint8_t there_p, uint8_t there_h,
+                               uint32_t temperature, uint32_t pressure, uint32_t humidity,
+                               uint8_t *verdicts, size_t verdicts_length);
 
 /* ---- waiting */
 

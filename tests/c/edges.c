@@ -1,5 +1,5 @@
 /* What no line can ask of the library for C: places that are too few, places that stay as they were, words that their types can't
- * hold, null pointers with no element behind them, and the version. Says what is wrong, and answers 1 then. */
+ * hold, values of 64 bits, null pointers with no element behind them, and the version. Says what is wrong, and answers 1 then. */
 #include <stdio.h>
 
 #include "onegrish.h"
@@ -96,6 +96,97 @@ static void try_kept(void) {
     }
 }
 
+/* Four places for each part of a point, and for verdicts. */
+static const double untouched = 99.5;
+static double doubles[4];
+static uint8_t known[4], marks[4], verdicts[4];
+
+/* The point of those bytes, or of so many less, in so many places. */
+static uint8_t by_point(uint8_t t, uint8_t p, uint8_t h, size_t short_by, size_t d, size_t k, size_t n) {
+    for (int i = 0; i < 4; i++) doubles[i] = untouched, known[i] = marks[i] = UNTOUCHED;
+    return onegrish_point(one, 26, two, 7, bytes, 8 - short_by, t, p, h, doubles, d, known, k, marks, n);
+}
+
+static uint64_t bits_of(int place) {
+    union { double value; uint64_t bits; } at;
+    at.value = doubles[place];
+    return at.bits;
+}
+
+/* Whether a point's three arrays stand as they were filled, from this place on. */
+static int points_stay_from(int place) {
+    int stay = 1;
+    for (int i = place; i < 4; i++) stay &= doubles[i] == untouched && known[i] == UNTOUCHED && marks[i] == UNTOUCHED;
+    return stay;
+}
+
+/* Whether a channel of the point is missing, with this number: its double is positive zero, all of whose bits are 0. */
+static int is_missing(int place, uint8_t number) {
+    return bits_of(place) == 0 && known[place] == 0 && marks[place] == number;
+}
+
+static void try_points(void) {
+    expect(by_point(1, 1, 1, 0, 2, 3, 3) == ONEGRISH_BUFFER_TOO_SHORT && points_stay_from(0), "2 doubles give 9, and write nothing");
+    expect(by_point(1, 1, 1, 0, 3, 2, 3) == ONEGRISH_BUFFER_TOO_SHORT && points_stay_from(0), "2 flags give 9, and write nothing");
+    expect(by_point(1, 1, 1, 0, 3, 3, 2) == ONEGRISH_BUFFER_TOO_SHORT && points_stay_from(0), "2 numbers of a point give 9, and write nothing");
+    expect(by_point(8, 1, 1, 1, 2, 2, 2) == ONEGRISH_BUFFER_TOO_SHORT && points_stay_from(0), "9 is all that a point refuses");
+    expect(by_point(1, 1, 0, 0, 3, 3, 3) == ONEGRISH_DONE && points_stay_from(3), "3 places of each are enough");
+    expect(bits_of(ONEGRISH_POINT_T) == 0x40A3980000000000 && known[0] == 1 && marks[0] == ONEGRISH_DONE, "K1 as a double");
+    expect(bits_of(ONEGRISH_POINT_P) == 0x40F892D410000000 && known[1] == 1 && marks[1] == ONEGRISH_DONE, "K2 as a double");
+    expect(is_missing(ONEGRISH_POINT_H, ONEGRISH_SKIPPED), "a skipped humidity is missing on the point");
+    expect(by_point(1, 1, 1, 0, 4, 4, 4) == ONEGRISH_DONE && points_stay_from(3), "places past a point stay");
+    expect(known[ONEGRISH_POINT_H] == 1 && marks[ONEGRISH_POINT_H] == ONEGRISH_DONE, "an enabled humidity has a value");
+    expect(by_point(0, 1, 0, 0, 4, 4, 4) == ONEGRISH_DONE && points_stay_from(3), "a point of no channel");
+    expect(is_missing(0, 10) && is_missing(1, 11) && is_missing(2, 10), "10 and 11 stand on the point");
+    expect(by_point(1, 1, 1, 1, 4, 4, 4) == ONEGRISH_DONE && points_stay_from(3), "a reading of 7 bytes is a point");
+    expect(is_missing(0, 2) && is_missing(1, 2) && is_missing(2, 2), "with three missing by 2");
+    expect(by_point(1, 8, 1, 0, 4, 4, 4) == ONEGRISH_DONE && points_stay_from(3), "a reading with code 8 is a point");
+    expect(is_missing(0, 7) && is_missing(1, 7) && is_missing(2, 7), "with three missing by 7");
+    expect(onegrish_point(NULL, 0, NULL, 0, NULL, 0, 1, 1, 1, NULL, 0, NULL, 0, NULL, 0) == ONEGRISH_BUFFER_TOO_SHORT, "no place for a point gives 9");
+    expect(by_point(1, 1, 1, 0, 3, 3, 3) == ONEGRISH_DONE && known[0] == 1, "an old point");
+    expect(onegrish_point(NULL, 0, NULL, 0, NULL, 0, 1, 1, 1, doubles, 3, known, 3, marks, 3) == ONEGRISH_DONE, "no bytes at all are a point");
+    expect(is_missing(0, 2) && is_missing(1, 2) && is_missing(2, 2), "and the old one is gone");
+}
+
+/* Those bytes compared with themselves, or with so many less, and with another code of humidity. */
+static uint8_t by_rooms(size_t short_by, uint8_t h, uint32_t t, uint32_t p, size_t n) {
+    for (int i = 0; i < 4; i++) verdicts[i] = UNTOUCHED;
+    return onegrish_compare_rooms(one, 26, two, 7, bytes, 8, 1, 1, 1, one, 26, two, 7, bytes, 8 - short_by, 1, 1, h, t, p, 0, verdicts, n);
+}
+
+static int are(uint8_t t, uint8_t p, uint8_t h, uint8_t past) {
+    return verdicts[0] == t && verdicts[1] == p && verdicts[2] == h && verdicts[3] == past;
+}
+
+static void try_rooms(void) {
+    const int64_t lowest = -0x7FFFFFFFFFFFFFFF - 1, highest = 0x7FFFFFFFFFFFFFFF;
+    const uint32_t most = 0xFFFFFFFF;
+    static const uint8_t warmer[ONEGRISH_DATA] = {0x65, 0x5A, 0xC0, 0x7F, 0xED, 0x00, 0x6D, 0x60};
+    expect(ONEGRISH_UNKNOWN == 0, "a verdict that was never written is unknown");
+    expect(onegrish_compare(0, 2508, 0, 2518, 10) == ONEGRISH_AGREE, "10 apart agree by 10");
+    expect(onegrish_compare(0, 2508, 0, 2518, 9) == ONEGRISH_DIFFER, "10 apart differ by 9");
+    expect(onegrish_compare(0, -5, 0, 5, 10) == ONEGRISH_AGREE && onegrish_compare(0, 5, 0, -5, 9) == ONEGRISH_DIFFER, "through zero, either way round");
+    expect(onegrish_compare(0, lowest, 0, highest, most) == ONEGRISH_DIFFER, "the two ends of 64 bits differ");
+    expect(onegrish_compare(0, lowest, 0, lowest, 0) == ONEGRISH_AGREE, "a value agrees with itself");
+    expect(onegrish_compare(10, 1, 0, 1, most) == ONEGRISH_UNKNOWN, "a missing channel is unknown");
+    expect(onegrish_compare(0, 1, 255, 1, most) == ONEGRISH_UNKNOWN, "on either side, by any number");
+    expect(onegrish_compare(2, 1, 2, 1, most) == ONEGRISH_UNKNOWN, "two missing channels don't agree");
+    expect(by_rooms(0, 1, 0, 0, 2) == ONEGRISH_BUFFER_TOO_SHORT && are(99, 99, 99, 99), "2 verdicts give 9, and write nothing");
+    expect(by_rooms(1, 8, 0, 0, 2) == ONEGRISH_BUFFER_TOO_SHORT && are(99, 99, 99, 99), "9 is all that two rooms refuse");
+    expect(by_rooms(0, 1, 0, 0, 3) == ONEGRISH_DONE && are(1, 1, 1, 99), "a room agrees with itself, in 3 places");
+    expect(by_rooms(0, 0, 0, 0, 4) == ONEGRISH_DONE && are(1, 1, 0, 99), "a skipped humidity is unknown, and the fourth place stays");
+    expect(by_rooms(1, 1, 9, 9, 4) == ONEGRISH_DONE && are(0, 0, 0, 99), "a reading of 7 bytes is unknown in all three");
+    expect(by_rooms(0, 8, 9, 9, 4) == ONEGRISH_DONE && are(0, 0, 0, 99), "a reading with code 8 is unknown in all three");
+    expect(onegrish_compare_rooms(one, 26, two, 7, bytes, 8, 1, 1, 1, one, 26, two, 7, warmer, 8, 1, 1, 0, 0, most, 0, verdicts, 3) ==
+           ONEGRISH_DONE && are(2, 1, 0, 99), "each channel by its own tolerance");
+    expect(onegrish_compare_rooms(one, 26, two, 7, bytes, 8, 1, 1, 1, one, 26, two, 7, warmer, 8, 1, 1, 1, most, 0, 0, verdicts, 3) ==
+           ONEGRISH_DONE && are(1, 2, 2, 99), "and the other way round");
+    expect(onegrish_compare_rooms(NULL, 0, NULL, 0, NULL, 0, 1, 1, 1, NULL, 0, NULL, 0, NULL, 0, 1, 1, 1, 0, 0, 0, NULL, 0) == ONEGRISH_BUFFER_TOO_SHORT,
+           "no place for verdicts gives 9");
+    expect(onegrish_compare_rooms(NULL, 0, NULL, 0, NULL, 0, 1, 1, 1, NULL, 0, NULL, 0, NULL, 0, 1, 1, 1, 0, 0, 0, verdicts, 3) == ONEGRISH_DONE &&
+           are(0, 0, 0, 99), "two rooms with no bytes are unknown");
+}
+
 /* A null pointer with 0 elements is read and written nowhere. */
 static void try_null(void) {
     uint8_t lent[4], address = UNTOUCHED;
@@ -132,8 +223,10 @@ int main(void) {
     try_words();
     try_places();
     try_kept();
+    try_points();
+    try_rooms();
     try_null();
     try_read();
-    if (wrong == 0) printf("tests/c: %d facts hold on places, kept words, null pointers, messages and the version\n", asked);
+    if (wrong == 0) printf("tests/c: %d facts hold on places, kept words, map points, rooms, null pointers, messages and the version\n", asked);
     return wrong != 0;
 }

@@ -1,10 +1,12 @@
-/* Answers the bench's lines on words, readings, waits, polls and bus bytes through the library for C, so that its answers can be
- * held to the second program's. A reading is asked for twice, from the blocks and with their words kept. Lines come well formed, with codes and bytes in their types; tests/c/run picks such lines. */
+/* Answers the bench's lines on words, readings, map points, rooms, waits, polls and bus bytes through the library for C, so that its
+ * answers can be held to the second program's. A reading is asked for twice, from the blocks and with their words kept, and so are two
+ * rooms, whole and channel by channel. Lines come well formed, with codes, bytes and tolerances in their types; tests/c/run picks such
+ * lines. */
 #include <stdio.h>
 
 #include "onegrish.h"
 
-enum { LINE = 4096, WORDS = 8 };
+enum { LINE = 4096, WORDS = 17 };
 
 static int same(const char *a, const char *b) {
     while (*a && *a == *b) a++, b++;
@@ -93,6 +95,69 @@ static void answer_comp(char **w) {
     putchar('\n');
 }
 
+/* The bytes and codes of a reading, as six words of a line have them. */
+struct asked {
+    uint8_t one[LINE], two[LINE], bytes[LINE], t, p, h;
+    size_t n, m, k;
+};
+
+static void ask(char **w, struct asked *a) {
+    a->n = bytes_of(w[0], a->one), a->m = bytes_of(w[1], a->two), a->k = bytes_of(w[2], a->bytes);
+    a->t = (uint8_t)number_of(w[3]), a->p = (uint8_t)number_of(w[4]), a->h = (uint8_t)number_of(w[5]);
+}
+
+/* A double's bits, or with a number what stands in its place. */
+static void print_cell(char name, double value, unsigned number) {
+    union { double value; uint64_t bits; } cell = {value};
+    if (number) printf("%c!%u", name, number);
+    else printf("%c=%016llX", name, (unsigned long long)cell.bits);
+}
+
+/* point and cells: the same call, with the flags of the doubles or with the numbers. */
+static void answer_point(char **w, int cells) {
+    static struct asked a;
+    double doubles[ONEGRISH_POINT];
+    uint8_t known[ONEGRISH_POINT], numbers[ONEGRISH_POINT];
+    ask(w + 1, &a);
+    if (onegrish_point(a.one, a.n, a.two, a.m, a.bytes, a.k, a.t, a.p, a.h, doubles, 3, known, 3, numbers, 3) != ONEGRISH_DONE)
+        printf("refused: ");
+    for (int i = 0; i < ONEGRISH_POINT; i++) {
+        if (i) putchar(' ');
+        print_cell("tph"[i], doubles[i], cells ? numbers[i] : 0);
+    }
+    if (!cells) printf(" known=%u,%u,%u", known[0], known[1], known[2]);
+    putchar('\n');
+}
+
+/* The channels of a reading as they are handed over; one that is refused whole has its number in all three. */
+static struct reading read_asked(const struct asked *a) {
+    struct reading r = {0, {99, 99, 99}, {-1, -1, -1, -1}};
+    r.answer = onegrish_compensate(a->one, a->n, a->two, a->m, a->bytes, a->k, a->t, a->p, a->h, r.numbers, 3, r.values, 4);
+    for (int i = 0; r.answer && i < ONEGRISH_NUMBERS; i++) r.numbers[i] = r.answer;
+    return r;
+}
+
+static void answer_rooms(char **w) {
+    static const int places[ONEGRISH_VERDICTS] = {ONEGRISH_VALUE_T, ONEGRISH_VALUE_P, ONEGRISH_VALUE_H};
+    static struct asked a, b;
+    uint32_t tolerances[ONEGRISH_VERDICTS];
+    uint8_t verdicts[ONEGRISH_VERDICTS] = {99, 99, 99};
+    struct reading here, there;
+    ask(w + 1, &a), ask(w + 7, &b);
+    for (int i = 0; i < ONEGRISH_VERDICTS; i++) tolerances[i] = (uint32_t)number_of(w[13 + i]);
+    if (onegrish_compare_rooms(a.one, a.n, a.two, a.m, a.bytes, a.k, a.t, a.p, a.h, b.one, b.n, b.two, b.m, b.bytes, b.k, b.t, b.p, b.h,
+                               tolerances[0], tolerances[1], tolerances[2], verdicts, 3) != ONEGRISH_DONE)
+        printf("refused: ");
+    here = read_asked(&a), there = read_asked(&b);
+    for (int i = 0; i < ONEGRISH_VERDICTS; i++)
+        if (verdicts[i] != onegrish_compare(here.numbers[i], here.values[places[i]], there.numbers[i], there.values[places[i]], tolerances[i]))
+            printf("by its channels otherwise: ");
+    for (int i = 0; i < ONEGRISH_VERDICTS; i++)
+        printf("%s%c=%s", i ? " " : "", "tph"[i],
+               verdicts[i] == ONEGRISH_AGREE ? "agree" : verdicts[i] == ONEGRISH_DIFFER ? "differ" : verdicts[i] == ONEGRISH_UNKNOWN ? "unknown" : "?");
+    putchar('\n');
+}
+
 static void answer_wait(char **w) {
     uint32_t microseconds;
     uint8_t t = (uint8_t)number_of(w[2]), p = (uint8_t)number_of(w[3]), h = (uint8_t)number_of(w[4]);
@@ -152,6 +217,9 @@ int main(void) {
             else {
                 if (same(words[0], "cal")) answer_cal(words);
                 else if (same(words[0], "comp")) answer_comp(words);
+                else if (same(words[0], "point")) answer_point(words, 0);
+                else if (same(words[0], "cells")) answer_point(words, 1);
+                else if (same(words[0], "rooms")) answer_rooms(words);
                 else if (same(words[0], "wait")) answer_wait(words);
                 else if (same(words[0], "poll")) answer_poll(words);
                 else answer_bus(words, count);

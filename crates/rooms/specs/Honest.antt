@@ -2,8 +2,12 @@
 use Prim.Native.Nat.{ℕ, _≤_, _<_}
 use mathlib.Core.Logic.{_⊎_}
 use mathlib.Core.Path.{_≡_}
-use lib.IntN.{ℤ, natAbs, _-ℤ_}
+use lib.IntN.{ℤ, pos, natAbs, _-ℤ_}
 use Rattle.formula.specs.declared.Missing.{Missing}
+use Rattle.formula.specs.declared.TemperatureAnswer.{TemperatureAnswer}
+use Rattle.formula.specs.declared.TemperatureAnswer.the-variants as heat
+use Rattle.formula.specs.declared.ChannelAnswer.{ChannelAnswer}
+use Rattle.formula.specs.declared.ChannelAnswer.the-variants as channel
 use Rattle.compensation.specs.declared.Reading.{Reading}
 use Rattle.compensation.specs.declared.Answer.{Answer}
 use Rattle.compensation.specs.declared.Answer.the-variants.{Done, Refused}
@@ -13,41 +17,54 @@ use Rattle.rooms.specs.declared.Verdict.{Verdict}
 use Rattle.rooms.specs.declared.Verdict.the-variants.{Agree, Differ, Unknown}
 use Rattle.rooms.specs.declared.Verdicts.{Verdicts}
 use Rattle.rooms.specs.declared.Tolerances.{Tolerances}
-use Rattle.rooms.specs.Compared.{temperatureWhole, channelWhole}
 
--- ---- two channels
+-- ---- which value a channel has, and that it has none
 
--- both have a value, and the values are so far apart
-pub record Apart (one two : Whole) (distance : ℕ) : Type 0 where
-  pub first : ℤ
-  pub second : ℤ
-  pub one-is : one ≡ whole.Known first
-  pub two-is : two ≡ whole.Known second
-  pub distance-is : natAbs (first -ℤ second) ≡ distance
+pub record Channel (C : Type 0) : Type 1 where
+  pub has : C → ℤ → Type 0
+  pub lacks : C → Type 0
 
-pub record IsMissing (channel : Whole) : Type 0 where
-  pub what : Missing
-  pub is : channel ≡ whole.Missing what
+abbrev pub wholes : Channel Whole
+wholes = record { has = λ c value. c ≡ whole.Known value; lacks = λ c. (m : Missing) × (c ≡ whole.Missing m) }
 
--- a verdict is agree exactly where both have a value and they differ by at most the tolerance, differ exactly where both have one and they
--- don't, unknown exactly where one is missing
-pub record Honest (one two : Whole) (tolerance : ℕ) (verdict : Verdict) : Type 0 where
-  pub agrees : verdict ≡ Agree → (distance : ℕ) × Apart one two distance × (distance ≤ tolerance)
-  pub agree : {distance : ℕ} → Apart one two distance → distance ≤ tolerance → verdict ≡ Agree
-  pub differs : verdict ≡ Differ → (distance : ℕ) × Apart one two distance × (tolerance < distance)
-  pub differ : {distance : ℕ} → Apart one two distance → tolerance < distance → verdict ≡ Differ
-  pub is-unknown : verdict ≡ Unknown → IsMissing one ⊎ IsMissing two
-  pub unknown : IsMissing one ⊎ IsMissing two → verdict ≡ Unknown
+-- the hundredths, whatever the fine temperature
+abbrev pub temperatures : Channel TemperatureAnswer
+temperatures = record { has = λ c value. (fine : ℤ) × (c ≡ heat.Known value fine); lacks = λ c. (m : Missing) × (c ≡ heat.Missing m) }
 
--- and a channel beside itself: it agrees where it has a value, and is unknown where it has none
-pub record WithItself (channel : Whole) (verdict : Verdict) : Type 0 where
-  pub agree : {value : ℤ} → channel ≡ whole.Known value → verdict ≡ Agree
-  pub unknown : {m : Missing} → channel ≡ whole.Missing m → verdict ≡ Unknown
+-- a pressure or a humidity
+abbrev pub levels : Channel ChannelAnswer
+levels = record { has = λ c value. (n : ℕ) × (c ≡ channel.Known n) × (value ≡ pos n); lacks = λ c. (m : Missing) × (c ≡ channel.Missing m) }
+
+-- ---- two channels of any kind
+
+module _ {C : Type 0} (k : Channel C) where
+  -- both have a value, and they are so far apart
+  pub record Apart (one two : C) (distance : ℕ) : Type 0 where
+    pub first : ℤ
+    pub second : ℤ
+    pub one-has : k .has one first
+    pub two-has : k .has two second
+    pub distance-is : natAbs (first -ℤ second) ≡ distance
+
+  -- a verdict is agree exactly where both have a value and they differ by at most the tolerance, differ exactly where both have one and they
+  -- don't, unknown exactly where one has none
+  pub record Honest (one two : C) (tolerance : ℕ) (verdict : Verdict) : Type 0 where
+    pub agrees : verdict ≡ Agree → (distance : ℕ) × Apart one two distance × (distance ≤ tolerance)
+    pub agree : {distance : ℕ} → Apart one two distance → distance ≤ tolerance → verdict ≡ Agree
+    pub differs : verdict ≡ Differ → (distance : ℕ) × Apart one two distance × (tolerance < distance)
+    pub differ : {distance : ℕ} → Apart one two distance → tolerance < distance → verdict ≡ Differ
+    pub is-unknown : verdict ≡ Unknown → k .lacks one ⊎ k .lacks two
+    pub unknown : k .lacks one ⊎ k .lacks two → verdict ≡ Unknown
+
+  -- and a channel beside itself agrees where it has a value, and is unknown where it has none
+  pub record WithItself (one : C) (verdict : Verdict) : Type 0 where
+    pub agree : {value : ℤ} → k .has one value → verdict ≡ Agree
+    pub unknown : k .lacks one → verdict ≡ Unknown
 
 pub record HonestChannels (compared : Whole → Whole → ℕ → Verdict) : Type 0 where
-  pub honest : (one two : Whole) (tolerance : ℕ) → Honest one two tolerance (compared one two tolerance)
+  pub honest : (one two : Whole) (tolerance : ℕ) → Honest wholes one two tolerance (compared one two tolerance)
   pub symmetric : (one two : Whole) (tolerance : ℕ) → compared one two tolerance ≡ compared two one tolerance
-  pub itself : (one : Whole) (tolerance : ℕ) → WithItself one (compared one one tolerance)
+  pub itself : (one : Whole) (tolerance : ℕ) → WithItself wholes one (compared one one tolerance)
 
 -- nothing else is honest
 abbrev pub OnlyHonest : (Whole → Whole → ℕ → Verdict) → Type 0
@@ -57,18 +74,22 @@ OnlyHonest compared =
 
 -- ---- two rooms, channel by channel
 
--- what holds of each channel of two readings, its tolerance and its verdict
-pub record EachChannel (holds : Whole → Whole → ℕ → Verdict → Type 0) (r s : Reading) (t : Tolerances) (v : Verdicts) : Type 0 where
-  pub temperature : holds (temperatureWhole (r .temperature)) (temperatureWhole (s .temperature)) (t .temperature) (v .temperature)
-  pub pressure : holds (channelWhole (r .pressure)) (channelWhole (s .pressure)) (t .pressure) (v .pressure)
-  pub humidity : holds (channelWhole (r .humidity)) (channelWhole (s .humidity)) (t .humidity) (v .humidity)
+pub record HonestReadings (r s : Reading) (t : Tolerances) (v : Verdicts) : Type 0 where
+  pub temperature : Honest temperatures (r .temperature) (s .temperature) (t .temperature) (v .temperature)
+  pub pressure : Honest levels (r .pressure) (s .pressure) (t .pressure) (v .pressure)
+  pub humidity : Honest levels (r .humidity) (s .humidity) (t .humidity) (v .humidity)
+
+pub record ReadingWithItself (r : Reading) (v : Verdicts) : Type 0 where
+  pub temperature : WithItself temperatures (r .temperature) (v .temperature)
+  pub pressure : WithItself levels (r .pressure) (v .pressure)
+  pub humidity : WithItself levels (r .humidity) (v .humidity)
 
 abbrev pub allUnknown : Verdicts
 allUnknown = record { temperature = Unknown; pressure = Unknown; humidity = Unknown }
 
 pub record HonestRooms (compared : Answer → Answer → Tolerances → Verdicts) : Type 0 where
-  pub honest : (r s : Reading) (t : Tolerances) → EachChannel Honest r s t (compared (Done r) (Done s) t)
-  pub itself : (r : Reading) (t : Tolerances) → EachChannel (λ one two tolerance verdict. WithItself one verdict) r r t (compared (Done r) (Done r) t)
+  pub honest : (r s : Reading) (t : Tolerances) → HonestReadings r s t (compared (Done r) (Done s) t)
+  pub itself : (r : Reading) (t : Tolerances) → ReadingWithItself r (compared (Done r) (Done r) t)
   -- one that is refused whole is unknown to every room, itself too
   pub refused : (n : ℕ) (two : Answer) (t : Tolerances) → compared (Refused n) two t ≡ allUnknown
   pub symmetric : (one two : Answer) (t : Tolerances) → compared one two t ≡ compared two one t
