@@ -19,19 +19,19 @@ use Rattle.bench_command.specs.Table as table
 use Rattle.bench_command.specs.Commands.{asked}
 
 abbrev two-readings : ℕ → ℕ → ℕ → ℕ → ℕ → ℕ → ℕ → ℕ → ℕ → ℕ → ℕ → ℕ → ℕ → ℕ → ℕ → Sent
-two-readings one two raw t p h three four more u q i temperature pressure humidity = record {
+two-readings one two raw t p h one' two' raw' t' p' h' temperature pressure humidity = record {
   one = one;
   two = two;
   raw = raw;
   t = t;
   p = p;
   h = h;
-  three = three;
-  four = four;
-  more = more;
-  u = u;
-  q = q;
-  i = i;
+  «second_one» = one';
+  «second_two» = two';
+  «second_raw» = raw';
+  «second_t» = t';
+  «second_p» = p';
+  «second_h» = h';
   temperature = temperature;
   pressure = pressure;
   humidity = humidity;

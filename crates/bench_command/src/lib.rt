@@ -22,12 +22,12 @@ pub struct Sent {
     pub p: u8,
     pub h: u8,
     // Of the second.
-    pub three: usize,
-    pub four: usize,
-    pub more: usize,
-    pub u: u8,
-    pub q: u8,
-    pub i: u8,
+    pub second_one: usize,
+    pub second_two: usize,
+    pub second_raw: usize,
+    pub second_t: u8,
+    pub second_p: u8,
+    pub second_h: u8,
     // The tolerances by which the two are compared.
     pub temperature: u32,
     pub pressure: u32,

@@ -35,7 +35,7 @@ abbrev pub first : Sent → List ℕ → Answer
 first s bytes = answer (s .one) (s .two) (s .raw) (s .t) (s .p) (s .h) bytes
 
 abbrev pub second : Sent → List ℕ → Answer
-second s bytes = answer (s .three) (s .four) (s .more) (s .u) (s .q) (s .i) (drop (s .raw) (drop (s .two) (drop (s .one) bytes)))
+second s bytes = answer (s .«second_one») (s .«second_two») (s .«second_raw») (s .«second_t») (s .«second_p») (s .«second_h») (drop (s .raw) (drop (s .two) (drop (s .one) bytes)))
 
 abbrev pub tolerances : Sent → Tolerances
 tolerances s = record { temperature = s .temperature; pressure = s .pressure; humidity = s .humidity }

@@ -87,12 +87,12 @@ fn compare(answer: Answer, sent: Sent, bytes: &[u8]) -> Verdicts
     rooms::compare_rooms(
         answer,
         compensate(
-            sent.three,
-            sent.four,
-            sent.more,
-            sent.u,
-            sent.q,
-            sent.i,
+            sent.second_one,
+            sent.second_two,
+            sent.second_raw,
+            sent.second_t,
+            sent.second_p,
+            sent.second_h,
             after,
         ),
         Tolerances {

@@ -36,16 +36,16 @@ fn judge(distance: u64, tolerance: u32) -> Verdict
 pub fn compare_readings(one: Reading, two: Reading, tolerances: Tolerances) -> Verdicts
     ensures { λ r. ⌜ r ≡ compared.comparedReadings one two tolerances ⌝ }
 {
-    let t = one.temperature;
-    let p = one.pressure;
-    let h = one.humidity;
-    let u = two.temperature;
-    let q = two.pressure;
-    let i = two.humidity;
+    let one_t = one.temperature;
+    let one_p = one.pressure;
+    let one_h = one.humidity;
+    let two_t = two.temperature;
+    let two_p = two.pressure;
+    let two_h = two.humidity;
     Verdicts {
-        temperature: compare_temperatures(t, u, tolerances.temperature),
-        pressure: compare_levels(p, q, tolerances.pressure),
-        humidity: compare_levels(h, i, tolerances.humidity),
+        temperature: compare_temperatures(one_t, two_t, tolerances.temperature),
+        pressure: compare_levels(one_p, two_p, tolerances.pressure),
+        humidity: compare_levels(one_h, two_h, tolerances.humidity),
     }
 }
 
