@@ -6,7 +6,6 @@ use mathlib.Core.List.{List, [], _∷_}
 use mathlib.Core.Path.{_≡_, refl, sym, ap, _∙_}
 use lib.ListN.{length, take, drop}
 use lib.Seq.{drop-drop}
-use Rattle.bench_command.specs.declared.Asked.{Asked}
 use Rattle.bench_command.specs.declared.Shown.the-variants.{Rooms}
 use Rattle.bench_command.specs.Words as words
 use Rattle.bench_command.specs.Table.{Row, row, reading, commands, fits, isOf, askedBy, refused, tried, texts, first, makeAt}

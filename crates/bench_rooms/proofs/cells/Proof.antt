@@ -8,8 +8,11 @@ use Rattle.bench_rooms.proofs.cells.Tie as tie
 returns : tie.Need-returns
 unfolding cells
 returns c =
-    let p = c .before .before .before .before .before .before .before .before .before .before in
-    three _ _ _ _ (p .before .before .before .before .before .before .before .before .write-cell .ensures) (p .before .before .before .before .write-byte .ensures) (p .write-cell2 .ensures) (c .before .before .before .before .before .before .write-byte2 .ensures) (c .before .before .write-cell3 .ensures)
+    let third = c .before .before in
+    let second = third .before .before .before .before .before .before .before .before in
+    let first = second .before .before .before .before .before .before .before .before in
+    three _ _ _ _ (first .write-cell .ensures) (second .before .before .before .before .write-byte .ensures) (second .write-cell2 .ensures)
+    (third .before .before .before .before .write-byte2 .ensures) (third .write-cell3 .ensures)
 
 pub cells-spec : {M : Type 1} → statement M
 cells-spec =

@@ -10,10 +10,13 @@ use Rattle.bench_rooms.proofs.point.Tie as tie
 returns : tie.Need-returns
 unfolding point
 returns c =
-    let h = c .before .before .before .before .before .before .before .before .before .before .before in
-    let p = h .before .before .before .before .before .before .before .before in
-    three _ _ _ _ (p .before .before .before .before .before .before .before .before .write-double .ensures) (p .before .before .before .before .write-byte .ensures) (p .write-double2 .ensures) (h .before .before .before .before .write-byte2 .ensures)
-    (joined _ _ _ (h .write-double3 .ensures) (rw (flagged, flagged, flagged) at (c .before .before .fill .ensures)))
+    let flags = c .before .before in
+    let third = flags .before .before .before .before .before .before .before .before .before in
+    let second = third .before .before .before .before .before .before .before .before in
+    let first = second .before .before .before .before .before .before .before .before in
+    three _ _ _ _ (first .write-double .ensures) (second .before .before .before .before .write-byte .ensures) (second .write-double2 .ensures)
+    (third .before .before .before .before .write-byte2 .ensures)
+    (joined _ _ _ (third .write-double3 .ensures) (rw (flagged, flagged, flagged) at (flags .fill .ensures)))
 
 pub point-spec : {M : Type 1} → statement M
 point-spec =

@@ -8,8 +8,11 @@ use Rattle.bench_rooms.proofs.verdicts.Tie as tie
 returns : tie.Need-returns
 unfolding verdicts
 returns c =
-    let p = c .before .before .before .before .before .before .before .before .before .before in
-    three _ _ _ _ (p .before .before .before .before .before .before .before .before .write-verdict .ensures) (p .before .before .before .before .write-byte .ensures) (p .write-verdict2 .ensures) (c .before .before .before .before .before .before .write-byte2 .ensures) (c .before .before .write-verdict3 .ensures)
+    let third = c .before .before in
+    let second = third .before .before .before .before .before .before .before .before in
+    let first = second .before .before .before .before .before .before .before .before in
+    three _ _ _ _ (first .write-verdict .ensures) (second .before .before .before .before .write-byte .ensures) (second .write-verdict2 .ensures)
+    (third .before .before .before .before .write-byte2 .ensures) (third .write-verdict3 .ensures)
 
 pub verdicts-spec : {M : Type 1} → statement M
 verdicts-spec =
