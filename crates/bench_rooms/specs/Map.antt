@@ -1,6 +1,5 @@
 -- point: `t=BITS p=BITS h=BITS known=1,1,0`. cells: `t=BITS p=BITS h!10`, a missing one with its number. rooms: `t=agree p=differ h=unknown`.
 use Prim.Native.Nat.{ℕ, _/_}
-use mathlib.Core.Bool.{Bool, true, false}
 use mathlib.Core.List.{List, [], _∷_, _++_}
 use lib.Ieee.{Float, binary64, toBits}
 use Rattle.bench_page.specs.Page.{letters}
@@ -12,6 +11,7 @@ use Rattle.rooms.specs.declared.MapPoint.{MapPoint}
 use Rattle.rooms.specs.declared.Verdict.{Verdict}
 use Rattle.rooms.specs.declared.Verdict.the-variants.{Agree, Differ, Unknown}
 use Rattle.rooms.specs.declared.Verdicts.{Verdicts}
+use Rattle.rooms.specs.Points.{flag}
 
 -- ---- the letters of the channels, and three texts with single spaces between them
 
@@ -38,10 +38,6 @@ unfoldable pub double : ℕ → Float → List ℕ
 double letter x = bits letter (toBits binary64 x)
 
 -- ---- points: 1 for a channel that has a value, 0 for one that is missing
-
-abbrev pub flag : Bool → ℕ
-flag true = 1
-flag false = 0
 
 abbrev pub known : MapPoint → List ℕ
 known m = filled (letters " known=#,#,#") (flag (m .«temperature_known») ∷ flag (m .«pressure_known») ∷ flag (m .«humidity_known») ∷ [])

@@ -5,6 +5,7 @@ use native.Mathlib.Omega.{arith}
 use mathlib.Core.Bool.{Bool, true, false}
 use mathlib.Core.Path.{_≡_, refl, ap, sym, subst, _∙_}
 use lib.Pow.{pow-add, pow-pos, pow-mono, shl-lt}
+use Rattle.laws.specs.Tests.{never}
 use lib.IntN.{ℤ, pos, negsuc}
 use lib.Signed.{mag}
 use lib.Ieee.{Float, nan, inf, fin, binary64, up, down, div, ofInt, round, toBits}
@@ -27,9 +28,6 @@ use Rattle.rooms.proofs.Bits.{bit, means, one-meaning}
 
 -- ---- a whole number divided by 2 ^ k
 
-apart : true ≡ false → ⊥
-apart e = let z : _≡_ {A = ℕ} 0 1 = cc in omega arith
-
 module _ (k n : ℕ) (small : n < 2 ^ 53) (few : k ≤ 1074) where
   split : 2 ^ (1074 - k) * 2 ^ k ≡ 2 ^ 1074
   split = let e : 1074 - k + k ≡ 1074 = omega arith in sym (pow-add 2 (1074 - k) k) ∙ ap (λ n. 2 ^ n) e
@@ -45,7 +43,7 @@ module _ (k n : ℕ) (small : n < 2 ^ 53) (few : k ≤ 1074) where
   unfolding div
   divided nan v = absurd v
   divided (inf s) v = absurd v
-  divided (fin true m e) v = absurd (apart (v .0))
+  divided (fin true m e) v = absurd (never (sym (v .0)))
   divided (fin false m e) v =
       round-same binary64 false (m * up e * 1) (1 * 2 ^ k * down e) n (2 ^ k) (mul-pos (mul-pos (omega arith) (pow-pos k)) (down-pos e)) (pow-pos k)
       (ap (λ m. m * 2 ^ k) (v .1) ∙ simp (mul-assoc, mul-comm, one-mul))

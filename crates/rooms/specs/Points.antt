@@ -91,6 +91,11 @@ isKnown (Pressure value) = true
 isKnown (Humidity value) = true
 isKnown (Missing m) = false
 
+-- a flag as a number
+abbrev pub flag : Bool → ℕ
+flag true = 1
+flag false = 0
+
 abbrev pub pointOf : Cells → MapPoint
 pointOf c = record {
   temperature = double (c .temperature);
