@@ -6,3 +6,4 @@ pub mod Tree
 pub mod Reader
 pub mod Writer
 pub mod Lent
+pub mod Records

@@ -29,6 +29,10 @@ missing = 7
 abbrev pub mostBytes : ℕ
 mostBytes = 65535
 
+-- steps of a record: a list of so many holds any
+abbrev pub mostSteps : ℕ
+mostSteps = 14799
+
 -- groups in groups, the record's own counted
 abbrev pub levels : ℕ
 levels = 4

@@ -22,8 +22,10 @@ pub const VALUE: usize = 4;
 
 pub const MISSING_ANSWER: usize = 2;
 
-// Limits: bytes of a record, levels of groups, the largest humidity and the most whole pascals, and the numbers of a missing answer.
+// Limits: bytes and steps of a record, levels of groups, the largest humidity and the most whole pascals, and the numbers of a missing answer.
 pub const MOST_BYTES: usize = 65535;
+
+pub const MOST_STEPS: usize = 14799;
 
 pub const LEVELS: usize = 4;
 
