@@ -1,5 +1,5 @@
 -- Steps that pass the checks are those of a valid tree with no whole pascals.
-use Prim.Native.Nat.{ℕ, zero, suc, _+_, _≤_}
+use Prim.Native.Nat.{ℕ, zero, suc, _+_, _≤_, _<_}
 use native.Mathlib.Omega.{arith}
 use borrow.Author.Tests.{leb-true}
 use mathlib.Core.Bool.{Bool, true, false, cond, _&&_}
@@ -73,7 +73,9 @@ slot-in : (l time : ℕ) (t p h : Answer) (ss : List Step) (i : ℕ) → checked
 unfolding checked turn slotFits stepsIn plain
 slot-in l time t p h ss i e = go (slotFits time t p h) refl e
   where
-    go : (b : Bool) → slotFits time t p h ≡ b → goOn (cond b (onward (stage.Open l holds.Slot)) (halt no.valueOutside)) i (λ next. checked next ss (i + 1)) ≡ fine → In l (slot time t p h ∷ ss)
+    go :
+        (b : Bool) → slotFits time t p h ≡ b
+        → goOn (cond b (onward (stage.Open l holds.Slot)) (halt no.valueOutside)) i (λ next. checked next ss (i + 1)) ≡ fine → In l (slot time t p h ∷ ss)
     go true f e =
         let x = after-slot l ss (i + 1) e in
         let a = both-parts (leb time 0xFFFFFFFF) (isWithin place.Temperature t && (isWithin place.Pressure p && isWithin place.Humidity h)) f in
@@ -102,6 +104,10 @@ after-open l ss rest g gs last e f =
     ∙ ap (λ x. opened ∷ x) (sym (append-assoc (stepsIn g) (closed ∷ []) (stepsInAll gs ++ (closed ∷ last))))
     ∙ sym (append-assoc (around (stepsIn g)) (stepsInAll gs) (closed ∷ last))
 
+-- after its close, in the group around it
+later-up : (l : ℕ) (ss : List Step) (x : In l ss) → l < 3 → checked (stage.Open (suc l) holds.Groups) (x .rest) (x .place) ≡ fine
+later-up l ss x h = sym (ap (λ st. checked st (x .rest) (x .place)) (up-one l h)) ∙ x .later
+
 shorter : (ss rest : List Step) (g : Group) (fuel : ℕ) → length ss ≤ fuel → ss ≡ stepsIn g ++ (closed ∷ rest) → length rest ≤ fuel
 shorter ss rest g fuel h e = omega (arith, ap length e, length-append (stepsIn g) (closed ∷ rest))
 
@@ -115,7 +121,7 @@ mutual
   in-from (suc fuel) zero (opened ∷ ss) i h b e = apart (cc)
   in-from (suc fuel) (suc l) (opened ∷ ss) i h b e =
       let x = in-from fuel l ss (i + 1) (omega arith) (omega arith) e in
-      let y = all-from fuel l (x .rest) (x .place) (shorter ss (x .rest) (x .group) fuel (omega arith) (x .steps)) b (sym (ap (λ st. checked st (x .rest) (x .place)) (up-one l (omega arith))) ∙ x .later) in
+      let y = all-from fuel l (x .rest) (x .place) (shorter ss (x .rest) (x .group) fuel (omega arith) (x .steps)) b (later-up l ss x (omega arith)) in
       record {
         group = ofGroups (x .group) (y .groups);
         valid = (x .valid, y .valid);
@@ -135,7 +141,7 @@ mutual
   all-from (suc fuel) l [] i h b e = apart (cc)
   all-from (suc fuel) l (opened ∷ ss) i h b e =
       let x = in-from fuel l ss (i + 1) (omega arith) (omega arith) e in
-      let y = all-from fuel l (x .rest) (x .place) (shorter ss (x .rest) (x .group) fuel (omega arith) (x .steps)) b (sym (ap (λ st. checked st (x .rest) (x .place)) (up-one l (omega arith))) ∙ x .later) in
+      let y = all-from fuel l (x .rest) (x .place) (shorter ss (x .rest) (x .group) fuel (omega arith) (x .steps)) b (later-up l ss x (omega arith)) in
       record {
         groups = more (x .group) (y .groups);
         valid = (x .valid, y .valid);

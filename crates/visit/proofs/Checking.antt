@@ -89,7 +89,9 @@ mutual
       let y = checked-all gs l ss (x .0) (v .1) b in
       (y .0, ap (λ z. checked (stage.Open (suc l) holds.Nothing) z i) (append-assoc (around (stepsIn g)) (stepsInAll gs) ss) ∙ x .1 ∙ y .1)
 
-  checked-all : (gs : Groups) (l : ℕ) (ss : List Step) (i : ℕ) → AllValid gs l → suc l ≤ 3 → Like (stage.Open (suc l) holds.Groups) (stepsInAll gs ++ ss) i (stage.Open (suc l) holds.Groups) ss
+  checked-all :
+      (gs : Groups) (l : ℕ) (ss : List Step) (i : ℕ) → AllValid gs l → suc l ≤ 3
+      → Like (stage.Open (suc l) holds.Groups) (stepsInAll gs ++ ss) i (stage.Open (suc l) holds.Groups) ss
   checked-all none l ss i v b = (i, refl)
   checked-all (more g gs) l ss i v b =
       let x = around-checked g holds.Groups l (stepsInAll gs ++ ss) i tt (omega arith) (λ k. checked-in g l (closed ∷ (stepsInAll gs ++ ss)) k (v .0) (omega arith)) in

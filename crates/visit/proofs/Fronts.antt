@@ -100,7 +100,9 @@ taken-from : (n size : ℕ) (within : Bool) (a b : Answer) (s t : List ℕ) (at 
 unfolding taken
 taken-from n size within a b s t at next e = go (eqb n size) within refl refl e
   where
-    go : (x y : Bool) → eqb n size ≡ x → within ≡ y → cond x (cond y (telling a s (at + 3 + n)) (failing no.valueOutside at)) (failing no.wrongFieldLength at) ≡ telling b t next → Taken n size within a b s t
+    go :
+        (x y : Bool) → eqb n size ≡ x → within ≡ y
+        → cond x (cond y (telling a s (at + 3 + n)) (failing no.valueOutside at)) (failing no.wrongFieldLength at) ≡ telling b t next → Taken n size within a b s t
     go true true p q e = record { size-is = eqb-true n size p; within-is = q; answer-is = cc; rest-is = cc }
     go true false p q e = apart (cc)
     go false true p q e = apart (cc)

@@ -13,3 +13,4 @@ pub mod Plain
 pub mod Records
 pub mod Trips
 pub mod Sizes
+pub mod Examples
