@@ -2,6 +2,7 @@
 pub mod Tags
 pub mod Steps
 pub mod Words
+pub mod Kept
 pub mod Tree
 pub mod Reader
 pub mod Writer
