@@ -6,6 +6,7 @@ use lib.ListN.{length}
 use Rattle.laws.specs.Tables.{_gives_, AllHold}
 use Rattle.visit.specs.declared.Place.the-variants as place
 use Rattle.visit.specs.Steps.{Answer, value, missing, Step, opened, slot, closed, stray}
+use Rattle.visit.specs.Words.{words, wordsOf}
 use Rattle.visit.specs.Tree.{exact, pascals, gone, readingBytes}
 use Rattle.visit.specs.Reader.{Read, read, refused, taken, byKind, front, fieldFrom, slotOf, walk, bodyFrom, fieldOf, recordFrom, readRecord}
 use Rattle.visit.specs.Writer.{slotFits, turn, wrong, checked, frames}
@@ -70,6 +71,18 @@ pub records-read :
     ∷ [])
 unfolding readRecord recordFrom fieldOf fieldFrom front byKind taken walk slotOf bodyFrom
 records-read = refl
+
+-- ---- as words, eight for each step
+
+pub listed :
+    AllHold
+    ((wordsOf (opened ∷ theSlot ∷ closed ∷ []) gives
+    1 ∷ 0 ∷ 0 ∷ 0 ∷ 0 ∷ 0 ∷ 0 ∷ 0
+    ∷ 2 ∷ 7 ∷ 0 ∷ 0xFFFFFFFB ∷ 0 ∷ 25767233 ∷ 10 ∷ 0
+    ∷ 3 ∷ 0 ∷ 0 ∷ 0 ∷ 0 ∷ 0 ∷ 0 ∷ 0 ∷ [])
+    ∷ [])
+unfolding wordsOf words
+listed = refl
 
 -- ---- refused, each with the offset of its field
 

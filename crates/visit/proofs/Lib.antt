@@ -12,5 +12,6 @@ pub mod Faults
 pub mod Plain
 pub mod Records
 pub mod Trips
+pub mod Refusals
 pub mod Sizes
 pub mod Examples

@@ -8,3 +8,4 @@ pub mod Reader
 pub mod Writer
 pub mod Lent
 pub mod Records
+pub mod Refusals
