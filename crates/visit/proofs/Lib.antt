@@ -12,6 +12,7 @@ pub mod Faults
 pub mod Plain
 pub mod Records
 pub mod Trips
+pub mod Stages
 pub mod Refusals
 pub mod Sizes
 pub mod Examples
