@@ -8,7 +8,8 @@ use crate::visits::show;
 use crate::visits::trees::Tree;
 use crate::visits::LONGEST_RECORD;
 
-const KINDS: u64 = 16;
+const RECORDS: u64 = 16;
+const TEXTS: u64 = 64;
 
 /// Starts a source for one file.
 /// Files beside each other have nothing in common.
@@ -31,7 +32,7 @@ fn large(random: &mut Random) -> Tree {
 /// Every sixteen files have the longest record, one byte more, the most steps, and large ones with each damage.
 pub fn record(place: u64, seed: u64) -> Vec<u8> {
     let random = &mut source(place, seed);
-    match place % KINDS {
+    match place % RECORDS {
         0 => sized(random, LONGEST_RECORD).record(),
         1 => sized(random, LONGEST_RECORD + 1).record(),
         2 => {
@@ -63,16 +64,16 @@ pub fn record(place: u64, seed: u64) -> Vec<u8> {
 /// It then has exactly so many bytes.
 fn padded(text: Vec<u8>, bytes: usize) -> Vec<u8> {
     let mut text = text;
-    text.push(b'#');
+    text.extend(b"\n#");
     text.resize(bytes.max(text.len()), b'x');
     text
 }
 
 /// Makes the text of a file.
-/// Every sixteen files have those of the longest record, of one byte more, and of the longest text and one byte more.
+/// Every 64 files have those of the longest record, of one byte more, and of the longest text and one byte more.
 pub fn text(place: u64, seed: u64) -> Vec<u8> {
     let random = &mut source(place, seed);
-    match place % KINDS {
+    match place % TEXTS {
         0 => show::text(&sized(random, LONGEST_RECORD).steps()).into_bytes(),
         1 => show::text(&sized(random, LONGEST_RECORD + 1).steps()).into_bytes(),
         2 => {
@@ -87,7 +88,7 @@ pub fn text(place: u64, seed: u64) -> Vec<u8> {
             let tree = crowded(LONGEST_RECORD - random.below(64) as usize);
             texts::spoilt(random, &show::text(&tree.steps()))
         }
-        5..=7 => texts::good(random),
+        5..=20 => texts::good(random),
         _ => texts::bad(random),
     }
 }

@@ -114,14 +114,14 @@ impl Generator {
     /// Readings and walks take the most lines.
     fn anything(&mut self) {
         match self.random.below(100) {
-            0..=18 => self.readings(),
-            19..=27 => self.rooms(),
-            28..=42 => self.visits(),
-            43..=46 => self.calibrations(),
-            47..=55 => self.waits(),
-            56..=64 => self.polls(),
-            65..=80 => self.buses(),
-            81..=89 => self.events(),
+            0..=20 => self.readings(),
+            21..=29 => self.rooms(),
+            30..=38 => self.visits(),
+            39..=42 => self.calibrations(),
+            43..=52 => self.waits(),
+            53..=62 => self.polls(),
+            63..=79 => self.buses(),
+            80..=89 => self.events(),
             _ => self.damaged(),
         }
     }

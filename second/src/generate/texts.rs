@@ -75,6 +75,23 @@ fn plain(random: &mut Random) -> String {
     show::text(&tree(random, levels, widest).steps())
 }
 
+/// Puts a zero in front of a line's number, or two in front of its pressure.
+/// A number may have ten digits, so that one of ten stays.
+fn with_zeros(line: &str) -> String {
+    match line.rsplit_once(' ') {
+        Some((start, number)) if number.bytes().all(|byte| byte.is_ascii_digit()) => {
+            match number.len() < 10 {
+                true => format!("{start} 0{number}"),
+                false => line.to_string(),
+            }
+        }
+        _ => {
+            let longer = line.replacen("pressure ", "pressure 00", 1);
+            longer.replace("00missing", "missing")
+        }
+    }
+}
+
 /// Spells a line in another way that means the same.
 /// Remarks come and go, groups lose their numbers, figures gain zeros, and degrees lose their sign.
 fn restyled(random: &mut Random, line: &str) -> String {
@@ -89,14 +106,7 @@ fn restyled(random: &mut Random, line: &str) -> String {
             .trim_end_matches(|last: char| last.is_ascii_digit())
             .trim_end()
             .to_string(),
-        4 => match bare.rsplit_once(' ') {
-            Some((start, number)) if number.bytes().all(|byte| byte.is_ascii_digit()) => {
-                format!("{start} 0{number}")
-            }
-            _ => bare
-                .replacen("pressure ", "pressure 00", 1)
-                .replace("00missing", "missing"),
-        },
+        4 => with_zeros(bare),
         _ => line.to_string(),
     }
 }

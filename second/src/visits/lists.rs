@@ -110,6 +110,8 @@ fn spellings() -> Vec<String> {
         format!("visit read {record}"),
         format!("visit read {record} 3 3"),
         format!("visit read 3 {record}"),
+        format!("visit read {record}0G x"),
+        format!("visit read {record} x"),
         format!("visit write 257 ( {good} )"),
         format!("visit write 257 x"),
         format!("visit write x ( {good} )"),
