@@ -106,7 +106,7 @@ fn make(longest: usize, call: fn(&[u8]) -> Result<Vec<u8>, String>) -> io::Resul
 /// Anything else is a wrong argument.
 fn length(word: &str) -> Option<usize> {
     let length = words::decimal(word.as_bytes()).ok()?;
-    (length <= LONGEST_LENT).then(|| length as usize)
+    (length <= LONGEST_LENT).then_some(length as usize)
 }
 
 /// Runs a command on visit records, if the arguments name one.

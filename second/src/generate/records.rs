@@ -1,11 +1,13 @@
 //! Records to be read: well made, and damaged in one way each.
 
-use super::trees::{record, slot, tree};
+use super::trees::{crowded, record, slot, tree};
 use crate::random::Random;
 use crate::visits::cases::nested;
 use crate::visits::trees::{group, old_fields, Tree};
 use crate::visits::writer::fields;
 use crate::visits::Slot;
+
+const CHANNELS: [u8; 4] = [2, 3, 4, 6];
 
 /// Lists where the fields of a well made record begin.
 /// A group is gone into, every other field is passed over.
@@ -47,6 +49,28 @@ fn damage_byte(random: &mut Random, record: &mut [u8]) {
     };
 }
 
+/// Gives a field that may be beyond its limits, and its place in a slot: humidity, whole pascals, a missing answer.
+/// The values stand close to the limits, on either side.
+fn close_to_limits(random: &mut Random) -> (usize, Vec<u8>) {
+    let place = random.between(1, 3) as usize;
+    let channel = CHANNELS[place];
+    match random.below(4) {
+        0 => {
+            let value = random.pick(&[102_399_u32, 102_400, 102_401, 102_656, 1 << 31]);
+            (3, [&[6, 0, 4][..], &value.to_be_bytes()].concat())
+        }
+        1 => {
+            let value = random.pick(&[16_777_214_u32, 16_777_215, 16_777_216, 1 << 31]);
+            (2, [&[5, 0, 4][..], &value.to_be_bytes()].concat())
+        }
+        2 => (
+            place,
+            vec![7, 0, 2, channel, random.pick(&[0, 9, 10, 14, 15, 255])],
+        ),
+        _ => (place, vec![7, 0, 2, random.below(8) as u8, 10]),
+    }
+}
+
 /// Gives the fields of a slot of which one is wrong: beyond its limits, out of its place, of a wrong length, lost or doubled.
 /// All groups around them will have the right length.
 fn wrong_fields(random: &mut Random, slot: &Slot) -> Vec<u8> {
@@ -54,33 +78,27 @@ fn wrong_fields(random: &mut Random, slot: &Slot) -> Vec<u8> {
         true => old_fields(slot),
         false => fields(slot),
     };
-    let starts = starts(&bytes);
+    let mut starts = starts(&bytes);
+    starts.push(bytes.len());
+    let part = |place: usize| &bytes[starts[place]..starts[place + 1]];
+    if random.percent(50) {
+        let (place, field) = close_to_limits(random);
+        return [&bytes[..starts[place]], &field, &bytes[starts[place + 1]..]].concat();
+    }
     let place = random.below(4) as usize;
-    let start = starts[place];
-    let end = starts.get(place + 1).copied().unwrap_or(bytes.len());
-    let channel = [2, 3, 4, 6][place];
-    let (before, after) = (&bytes[..start], &bytes[end..]);
     let filled = |tag: u8, body: &[u8]| [&[tag, 0, body.len() as u8][..], body].concat();
-    let field = match random.below(11) {
-        0 => filled(6, &[0, 1, 0x90, 1]),
-        1 => filled(
-            5,
-            &random.pick(&[[1, 0, 0, 0], [0xFF; 4], [0, 0xFF, 0xFF, 0xFF]]),
-        ),
-        2 => filled(7, &[channel, random.pick(&[0, 9, 10, 14, 15, 255])]),
-        3 => filled(7, &[random.below(8) as u8, 10]),
-        4 => filled(random.below(9) as u8, &bytes[start + 3..end]),
-        5 => {
+    let field = match random.below(6) {
+        0 => filled(random.below(9) as u8, &part(place)[3..]),
+        1 => {
             let length = random.below(6) as usize;
-            filled(bytes[start], &random.bytes(length))
+            filled(part(place)[0], &random.bytes(length))
         }
-        6 => Vec::new(),
-        7 => bytes[start..end].repeat(2),
-        8 => group(&bytes[start..end]),
-        9 => return bytes[..start].to_vec(),
-        _ => return [before, after, &bytes[start..end]].concat(),
+        2 => Vec::new(),
+        3 => part(place).repeat(2),
+        4 => group(part(place)),
+        _ => return bytes[..starts[place]].to_vec(),
     };
-    [before, &field, after].concat()
+    [&bytes[..starts[place]], &field, &bytes[starts[place + 1]..]].concat()
 }
 
 /// Gives the fields of a slot with something after them.
@@ -162,15 +180,17 @@ pub fn of(random: &mut Random, tree: &Tree) -> Vec<u8> {
 /// Makes a record that fits a line, of any depth up to four, or five in a few.
 /// Now and then it is junk, or nothing.
 pub fn small(random: &mut Random) -> Vec<u8> {
-    let (levels, widest) = match random.below(40) {
-        0 => {
+    let (levels, widest) = match random.below(80) {
+        0 | 1 => {
             let length = random.below(20) as usize;
             return random.bytes(length);
         }
-        1 => return Vec::new(),
-        2 | 3 => (5, 1),
-        4 | 5 => (4, 4),
-        6..=9 => (4, 2),
+        2 => return Vec::new(),
+        3 => return crowded(random.between(1_000, 2_000) as usize).record(),
+        4 => (2, 60),
+        5..=8 => (5, 1),
+        9..=12 => (4, 4),
+        13..=20 => (4, 2),
         _ => (random.between(1, 4) as usize, 1 + random.below(2)),
     };
     let tree = tree(random, levels, widest);

@@ -154,17 +154,25 @@ pub fn sized(random: &mut Random, bytes: usize) -> Tree {
     Tree::Groups(groups)
 }
 
-/// Makes a tree of as many steps as so many bytes can have: groups three deep around a slot with nothing but its time.
-/// Its record may be a few bytes shorter.
+/// Makes a tree of as many steps as so many bytes can have: groups three deep, around slots with no value but the time.
+/// What is left holds a shallower one, or nothing.
 pub fn crowded(bytes: usize) -> Tree {
-    let slot = Slot {
+    let single = Tree::Slot(Slot {
         time: 1_700_000_000,
         temperature: Err(10),
         pressure: Err(14),
         humidity: Err(11),
-    };
-    let triple = Tree::Groups(vec![Tree::Groups(vec![Tree::Slot(slot)])]);
-    Tree::Groups(vec![triple.clone(); (bytes - 3) / triple.record().len()])
+    });
+    let double = Tree::Groups(vec![single.clone()]);
+    let triple = Tree::Groups(vec![double.clone()]);
+    let (count, left) = ((bytes - 3) / 31, (bytes - 3) % 31);
+    let mut groups = vec![triple; count];
+    match left {
+        28..=30 => groups.push(double),
+        25..=27 => groups.push(single),
+        _ => {}
+    }
+    Tree::Groups(groups)
 }
 
 /// Finds how many groups of 31 bytes fill what is left, so many of them 2 bytes shorter and so many 3 bytes longer.

@@ -23,7 +23,6 @@ pub const DRY: Slot = Slot {
 };
 /// Where the fields of DRY begin within it.
 const STARTS: [usize; 4] = [0, 7, 14, 21];
-pub const NUMBERS: [u32; 10] = [0, 9, 10, 11, 12, 13, 14, 15, 255, 266];
 
 /// Spells a command that reads a record into a list of so many steps.
 /// Its damage, if any, is the caller's.
@@ -97,75 +96,84 @@ fn damaged() -> Vec<String> {
     lines
 }
 
-/// Lists slots with one field changed in a group of the right length: its length, its tag and its value.
-/// A field that is lost or doubled is among them.
-fn changed_fields() -> Vec<String> {
+/// Gives DRY's fields with another field in place of the one that begins there.
+/// The other may be longer or shorter, or nothing.
+fn instead(start: usize, field: &[u8]) -> Vec<u8> {
     let slot = fields(&DRY);
-    let part = |from: usize, to: usize| slot[from..to].to_vec();
+    [&slot[..start], field, &slot[start + 7..]].concat()
+}
+
+/// Lists slots with one field changed: another length, lost, doubled, the last, or of another place.
+/// Where tag and length are both wrong, the order of the numbers is seen.
+fn changed_fields() -> Vec<Vec<u8>> {
+    let slot = fields(&DRY);
     let mut bodies = Vec::new();
-    for (place, start) in STARTS.into_iter().enumerate() {
-        let tag = slot[start];
+    for start in STARTS {
+        let (tag, field) = (slot[start], &slot[start..start + 7]);
         for length in [0, 2, 3, 5] {
-            let field = [&[tag, 0, length][..], &vec![0; usize::from(length)]].concat();
-            bodies.push([part(0, start), field, part(start + 7, 28)].concat());
+            bodies.push(instead(
+                start,
+                &[&[tag, 0, length][..], &vec![0; usize::from(length)]].concat(),
+            ));
         }
-        bodies.push([part(0, start), part(start + 7, 28)].concat());
-        bodies.push([part(0, start + 7), part(start, 28)].concat());
-        bodies.push(part(0, start));
-        bodies.push(
-            [
-                part(0, start),
-                vec![7, 0, 4, tag, 10, 0, 0],
-                part(start + 7, 28),
-            ]
-            .concat(),
-        );
-        bodies.push([part(0, start), vec![7, 0, 1, tag], part(start + 7, 28)].concat());
-        let wrong = [9 - place as u8, 0, 3, 0, 0, 0];
-        bodies.push([part(0, start), wrong.to_vec(), part(start + 7, 28)].concat());
+        bodies.push(instead(start, &[]));
+        bodies.push(instead(start, &field.repeat(2)));
+        bodies.push(slot[..start].to_vec());
+        bodies.push(instead(start, &[7, 0, 4, tag, 10, 0, 0]));
+        bodies.push(instead(start, &[7, 0, 1, tag]));
+        bodies.push(instead(start, &[9, 0, 3, 0, 0, 0]));
     }
-    let longest = [0xFF; 4];
+    bodies
+}
+
+/// Lists slots with values at each limit and beyond it, and with missing answers of each number and channel.
+/// Tag 5 stands in pressure's place.
+fn changed_values() -> Vec<Vec<u8>> {
     let values = [
-        (3, [0, 0, 0, 0]),
-        (3, [0x80, 0, 0, 0]),
-        (3, [0x7F, 0xFF, 0xFF, 0xFF]),
-        (3, longest),
-        (4, [0, 0, 0, 0]),
-        (4, longest),
-        (5, [0, 0, 0, 0]),
-        (5, [0, 0, 0, 1]),
-        (5, [0, 0xFF, 0xFF, 0xFF]),
-        (5, [1, 0, 0, 0]),
-        (5, longest),
-        (6, [0, 1, 0x8F, 0xFF]),
-        (6, [0, 1, 0x90, 0]),
-        (6, [0, 1, 0x90, 1]),
-        (6, [0, 2, 0, 0]),
-        (6, longest),
+        (7, 3, [0, 1 << 31, i32::MAX as u32, u32::MAX, 1]),
+        (14, 4, [0, 1, 1 << 24, 1 << 31, u32::MAX]),
+        (14, 5, [0, 1, 16_777_215, 16_777_216, u32::MAX]),
+        (21, 6, [0, 102_399, 102_400, 102_401, u32::MAX]),
     ];
-    for (tag, value) in values {
-        let start = match tag {
-            3 => 7,
-            6 => 21,
-            _ => 14,
-        };
-        let field = [&[tag, 0, 4][..], &value].concat();
-        bodies.push([part(0, start), field, part(start + 7, 28)].concat());
+    let mut bodies = Vec::new();
+    for (start, tag, words) in values {
+        let field = |word: u32| [&[tag, 0, 4][..], &word.to_be_bytes()].concat();
+        bodies.extend(words.map(|word| instead(start, &field(word))));
     }
-    for start in &STARTS[1..] {
-        let pairs = NUMBERS[..9]
-            .iter()
-            .map(|number| [slot[*start], *number as u8]);
-        let others = (0..8).map(|channel| [channel, 10]);
-        for [channel, number] in pairs.chain(others) {
-            let field = vec![7, 0, 2, channel, number];
-            bodies.push([part(0, *start), field, part(start + 7, 28)].concat());
+    for (start, channel) in [(7, 3), (14, 4), (21, 6)] {
+        let numbers = [0, 9, 10, 11, 12, 13, 14, 15, 255].map(|number| [channel, number]);
+        let channels = (0..8).map(|other| [other, 10]);
+        for [named, number] in numbers.into_iter().chain(channels) {
+            bodies.push(instead(start, &[7, 0, 2, named, number]));
         }
     }
     bodies
-        .iter()
-        .map(|body| read(&nested(1, body), 3))
-        .collect()
+}
+
+/// Lists records of three groups, of which the last, or the last but one, has a fault or is too deep.
+/// Where both have, the first decides.
+fn later_groups() -> Vec<String> {
+    let right = nested(2, &fields(&SKIPPED));
+    let faults = [
+        group(&instead(21, &[6, 0, 4, 0, 1, 0x90, 1])),
+        group(&instead(14, &[4, 0, 3, 0, 0, 0])),
+        group(&instead(7, &[6, 0, 4, 0, 0, 0, 0])),
+        group(&instead(21, &[])),
+        nested(4, &fields(&DRY)),
+    ];
+    let mut lines = Vec::new();
+    for fault in &faults {
+        lines.push(read(&group(&[&right[..], &right, fault].concat()), 32));
+        lines.push(read(&group(&[&right[..], fault, &right].concat()), 32));
+        lines.push(read(&group(&[&right[..], fault, &[0]].concat()), 32));
+        lines.push(read(&[&group(fault)[..], &right].concat(), 32));
+        lines.extend(
+            faults
+                .iter()
+                .map(|other| read(&group(&[&fault[..], other].concat()), 32)),
+        );
+    }
+    lines
 }
 
 /// Lists what may stand beside a slot, a group and the record, and groups with nothing in them.
@@ -205,18 +213,19 @@ fn beside() -> Vec<String> {
         lines.push(read(&nested(levels, &[]), 9));
         lines.extend(fifth.map(|field| read(&nested(levels, field), 9)));
     }
-    let outer = [&nested(4, &slot)[3..], &group(&nested(4, &slot)), &[0]].concat();
-    lines.push(read(&group(&outer), 16));
     lines
 }
 
 /// Lists all of these as lines, in a fixed order.
 /// None of them touches the machine.
 pub fn lines() -> Vec<String> {
+    let changed = [changed_fields(), changed_values()].concat();
+    let changed = changed.iter().map(|body| read(&group(body), 3));
     [
         examples(),
         damaged(),
-        changed_fields(),
+        changed.collect(),
+        later_groups(),
         beside(),
         lists::lines(),
     ]

@@ -1,11 +1,13 @@
 //! Lists of steps as fixed lines: each step at each place, each limit, and each way to spell a step.
 
-use super::cases::{write, DRY, NUMBERS, SKIPPED};
+use super::cases::{write, SKIPPED};
 use super::trees::group;
 use super::words::spell_all;
 use super::writer::fields;
-use super::{Slot, Step};
+use super::Step;
 use crate::spelling::hex;
+
+const NUMBERS: [u32; 11] = [0, 9, 10, 11, 12, 13, 14, 15, 255, 266, u32::MAX];
 
 /// Lists lists of steps with each step at each place, each step lost, and each start of a list.
 /// The list has two groups beside each other.
@@ -38,61 +40,32 @@ fn steps() -> Vec<String> {
 /// Lists slots whose answers stand on their limits and beyond, and missing ones of every kind.
 /// A slot out of place is refused for that first.
 fn values() -> Vec<String> {
-    let mut slots = Vec::new();
-    for number in NUMBERS.into_iter().chain([u32::MAX]) {
-        slots.push(Slot {
-            temperature: Err(number),
-            ..DRY
-        });
-        slots.push(Slot {
-            pressure: Err(number),
-            ..DRY
-        });
-        slots.push(Slot {
-            humidity: Err(number),
-            ..DRY
-        });
+    let mut slots = vec![String::from("7:!9:!15:!0")];
+    for number in NUMBERS {
+        slots.push(format!("7:!{number}:2:3"));
+        slots.push(format!("7:1:!{number}:3"));
+        slots.push(format!("7:1:2:!{number}"));
     }
     for value in [0, 1, 102_399, 102_400, 102_401, 1 << 31, u32::MAX] {
-        slots.push(Slot {
-            humidity: Ok(value),
-            ..DRY
-        });
-        slots.push(Slot {
-            pressure: Ok(value),
-            ..DRY
-        });
-        slots.push(Slot { time: value, ..DRY });
-        slots.push(Slot {
-            temperature: Ok(value as i32),
-            ..DRY
-        });
+        slots.push(format!("{value}:1:2:3"));
+        slots.push(format!("7:{}:2:3", value as i32));
+        slots.push(format!("7:1:{value}:3"));
+        slots.push(format!("7:1:2:{value}"));
     }
-    slots.push(Slot {
-        temperature: Err(9),
-        pressure: Err(15),
-        humidity: Err(0),
-        ..DRY
-    });
-    let mut lines = Vec::new();
-    for slot in slots {
-        lines.push(write(31, &[Step::Open, Step::Slot(slot), Step::Close]));
-    }
-    let bad = Step::Slot(Slot {
-        humidity: Ok(102_401),
-        ..DRY
-    });
-    let good = Step::Slot(DRY);
-    for steps in [
-        vec![bad],
-        vec![Step::Open, good, bad, Step::Close],
-        vec![Step::Open, bad, good],
-        vec![Step::Open, bad, Step::Open],
-        vec![Step::Open, good, Step::Close, bad],
-    ] {
-        lines.push(write(31, &steps));
-    }
-    lines
+    let alone = slots
+        .iter()
+        .map(|slot| format!("visit write 31 ( {slot} )"));
+    let among = [
+        "7:1:2:102401",
+        "( 7:1:2:3 7:1:2:102401 )",
+        "( 7:1:2:102401 7:1:2:3",
+        "( 7:1:2:102401 (",
+        "( 7:1:2:3 ) 7:1:2:102401",
+        "( ( 7:1:2:3 ) ( 7:1:2:102401 ) )",
+    ];
+    alone
+        .chain(among.map(|steps| format!("visit write 31 {steps}")))
+        .collect()
 }
 
 /// Lists spellings of a line, read and not read.
