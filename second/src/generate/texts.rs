@@ -157,7 +157,7 @@ fn damage(random: &mut Random, lines: &mut Vec<String>) {
     let content = line.trim_start().to_string();
     let spaces = line.len() - content.len();
     let other = random.below(lines.len() as u64) as usize;
-    match random.below(16) {
+    match random.below(20) {
         0 => lines[place] = format!(" {line}"),
         1 => lines[place] = format!("  {line}"),
         2 => lines[place] = format!("{}{content}", " ".repeat(random.below(12) as usize)),
