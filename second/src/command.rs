@@ -1,6 +1,8 @@
 //! The commands of the bench's lines, read from a line's bytes.
 
 use crate::compensation::Input;
+use crate::visits::words::steps;
+use crate::visits::Step;
 use crate::words::{
     buffer_length, decimal, hex_bytes, split, three_decimals, two_digits, Reason, LONGEST_LINE,
 };
@@ -51,6 +53,14 @@ pub enum Command {
     SpiRead {
         register: u8,
         length: usize,
+    },
+    VisitRead {
+        record: Vec<u8>,
+        length: usize,
+    },
+    VisitWrite {
+        length: usize,
+        steps: Vec<Step>,
     },
     Fresh(u64),
     Power,
@@ -151,6 +161,28 @@ fn read_spi(words: &[&[u8]]) -> Result<Command, Reason> {
     })
 }
 
+/// Reads a command of visit records: read takes a record and a length, write a length and any number of steps.
+/// All words are looked at from left to right.
+fn read_visit(words: &[&[u8]]) -> Result<Command, Reason> {
+    match second_word(words)? {
+        b"read" => {
+            check_count(words, 4)?;
+            Ok(Command::VisitRead {
+                record: hex_bytes(words[2])?,
+                length: buffer_length(words[3])?,
+            })
+        }
+        b"write" => {
+            let length = words.get(2).ok_or(Reason::WrongNumberOfWords)?;
+            Ok(Command::VisitWrite {
+                length: buffer_length(length)?,
+                steps: steps(words[3..].iter().copied())?,
+            })
+        }
+        _ => Err(Reason::UnknownWord),
+    }
+}
+
 /// Reads a fresh command.
 /// It takes one word after it or none.
 fn read_fresh(words: &[&[u8]]) -> Result<Command, Reason> {
@@ -241,6 +273,7 @@ pub fn read(line: &[u8]) -> Result<Command, Reason> {
         b"wait" => read_wait(&words),
         b"i2c" => read_i2c(&words),
         b"spi" => read_spi(&words),
+        b"visit" => read_visit(&words),
         b"fresh" => read_fresh(&words),
         b"power" => read_single(&words, Command::Power),
         b"copied" => read_single(&words, Command::Copied),

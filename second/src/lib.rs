@@ -22,5 +22,6 @@ pub mod sheet;
 pub mod spelling;
 pub mod steps;
 pub mod streams;
+pub mod visits;
 pub mod waiting;
 pub mod words;

@@ -8,9 +8,10 @@ use crate::compensation::{compensate, Input};
 use crate::machine::Machine;
 use crate::numbers::Number;
 use crate::rooms::{self, Channels};
+use crate::visits;
 use crate::waiting::{poll, wait, MAXIMUM, TYPICAL};
 
-const FILLING: u8 = 0xAA;
+pub const FILLING: u8 = 0xAA;
 
 /// The bench that answers lines. It keeps one machine.
 pub struct Bench {
@@ -126,6 +127,8 @@ impl Bench {
                 let call = |buffer: &mut [u8]| bus::spi_read(register, buffer);
                 lend(answer, length, call, answers::length)
             }
+            Command::VisitRead { record, length } => visits::answers::read(answer, &record, length),
+            Command::VisitWrite { length, steps } => visits::answers::write(answer, &steps, length),
             Command::Byte => write(answer, self.machine.byte(), answers::register),
             Command::Close(length) => {
                 let call = |buffer: &mut [u8]| self.machine.close(buffer);

@@ -1,8 +1,11 @@
-//! The second program's commands: answer, generate and its three kinds, sheet.
+//! The second program's commands: answer, generate and its kinds, sheet, visit.
 
-use second::generate::{Generator, Kind};
-use second::{edges, maps, sheet, streams};
-use std::io::{self, BufWriter, ErrorKind, Write};
+use second::generate::{files, Generator, Kind};
+use second::visits::{answers, cases, pack, show, LONGEST_RECORD};
+use second::{edges, maps, sheet, streams, words};
+use std::fs;
+use std::io::{self, BufWriter, ErrorKind, Read, Write};
+use std::path::Path;
 use std::process::ExitCode;
 
 const HELP: &str = "\
@@ -11,8 +14,16 @@ second generate COUNT SEED            writes COUNT lines of every command
 second generate-comp COUNT SEED       writes COUNT compensation readings
 second generate-events COUNT SEED     writes COUNT machine events and ledgers
 second generate-rooms COUNT SEED      writes COUNT points, cells and comparisons of rooms
-second sheet                          writes K1 to K14, other figures, the edges and the rooms
+second generate-visits COUNT SEED     writes COUNT lines of visit records
+second sheet                          writes K1 to K14, other figures, the edges, the rooms and the visits
+second visit read LEN < RECORD        answers as the bench does, for a record of any length
+second visit write LEN < STEPS        answers as the bench does, for any number of steps
+second visit show < RECORD            writes a record as a text for people
+second visit pack < TEXT              writes the record of such a text
+second generate-records FOLDER COUNT SEED    writes COUNT records, each into a file
+second generate-texts FOLDER COUNT SEED      writes COUNT texts, each into a file
 ";
+const LONGEST_LENT: u64 = 1_048_576;
 
 /// Answers all lines of standard input on standard output.
 /// Any bytes at all may come in.
@@ -31,14 +42,83 @@ fn generate(kind: Kind, count: u64, seed: u64) -> io::Result<()> {
     output.flush()
 }
 
-/// Writes the lines of the sheet, of the edges and of the rooms to standard output.
+/// Writes the lines of the sheet, of the edges, of the rooms and of the visits to standard output.
 /// Their order is fixed.
 fn sheet() -> io::Result<()> {
     let mut output = BufWriter::new(io::stdout().lock());
-    for line in [sheet::lines(), edges::lines(), maps::lines()].concat() {
+    let parts = [
+        sheet::lines(),
+        edges::lines(),
+        maps::lines(),
+        cases::lines(),
+    ];
+    for line in parts.concat() {
         writeln!(output, "{line}")?;
     }
     output.flush()
+}
+
+/// Writes so many files into a folder, which is made where it is missing.
+/// Their names are their numbers from 1, with six digits.
+fn fill(folder: &str, count: u64, seed: u64, make: fn(u64, u64) -> Vec<u8>) -> io::Result<()> {
+    fs::create_dir_all(folder)?;
+    for place in 0..count {
+        let path = Path::new(folder).join(format!("{:06}", place + 1));
+        fs::write(path, make(place, seed))?;
+    }
+    Ok(())
+}
+
+/// Reads standard input, but at most one byte more than so many.
+/// So what is too long is known as such, however much there is.
+fn input(longest: usize) -> io::Result<Vec<u8>> {
+    let mut bytes = Vec::new();
+    let limit = (longest as u64).saturating_add(1);
+    io::stdin().lock().take(limit).read_to_end(&mut bytes)?;
+    Ok(bytes)
+}
+
+/// Answers what stands on standard input by the given call.
+/// A refusal is an answer like any other.
+fn line(longest: usize, length: usize, call: fn(&[u8], usize) -> Vec<u8>) -> io::Result<()> {
+    let mut output = io::stdout().lock();
+    output.write_all(&call(&input(longest)?, length))?;
+    output.flush()
+}
+
+/// Writes what the given call makes of standard input, or says on standard error why it makes nothing.
+/// The latter gives exit code 1.
+fn make(longest: usize, call: fn(&[u8]) -> Result<Vec<u8>, String>) -> io::Result<()> {
+    match call(&input(longest)?) {
+        Ok(bytes) => {
+            let mut output = io::stdout().lock();
+            output.write_all(&bytes)?;
+            output.flush()
+        }
+        Err(line) => {
+            writeln!(io::stderr(), "{line}")?;
+            std::process::exit(1)
+        }
+    }
+}
+
+/// Reads the length of a lent list or buffer: more than the bench's 256, and at most a million or so.
+/// Anything else is a wrong argument.
+fn length(word: &str) -> Option<usize> {
+    let length = words::decimal(word.as_bytes()).ok()?;
+    (length <= LONGEST_LENT).then_some(length as usize)
+}
+
+/// Runs a command on visit records, if the arguments name one.
+/// What they take comes by standard input.
+fn visit(arguments: &[&str]) -> Option<io::Result<()>> {
+    match arguments {
+        ["read", word] => Some(line(LONGEST_RECORD, length(word)?, answers::read_line)),
+        ["write", word] => Some(line(usize::MAX, length(word)?, answers::write_line)),
+        ["show"] => Some(make(LONGEST_RECORD, show::show)),
+        ["pack"] => Some(make(pack::LONGEST_TEXT, pack::pack)),
+        _ => None,
+    }
 }
 
 /// Runs the command that the arguments name, if they name one.
@@ -47,15 +127,25 @@ fn run(arguments: &[&str]) -> Option<io::Result<()>> {
     match arguments {
         ["answer"] => Some(answer()),
         ["sheet"] => Some(sheet()),
+        ["visit", rest @ ..] => visit(rest),
         [command, count, seed] => {
             let kind = match *command {
                 "generate" => Kind::Everything,
                 "generate-comp" => Kind::Readings,
                 "generate-events" => Kind::Events,
                 "generate-rooms" => Kind::Rooms,
+                "generate-visits" => Kind::Visits,
                 _ => return None,
             };
             Some(generate(kind, count.parse().ok()?, seed.parse().ok()?))
+        }
+        [command, folder, count, seed] => {
+            let make = match *command {
+                "generate-records" => files::record,
+                "generate-texts" => files::text,
+                _ => return None,
+            };
+            Some(fill(folder, count.parse().ok()?, seed.parse().ok()?, make))
         }
         _ => None,
     }

@@ -1,4 +1,4 @@
-//! The numbers handed back, 1 to 17. Number 0, done, is Rust's `Ok`.
+//! The numbers handed back, 1 to 22. Number 0, done, is Rust's `Ok`.
 
 /// A number other than 0, by the paper's meaning of it.
 #[derive(Clone, Copy, Debug, PartialEq, Eq)]
@@ -21,4 +21,9 @@ pub enum Number {
     PairCount = 15,
     WrongShape = 16,
     NeverReady = 17,
+    CutShort = 18,
+    TagOutOfPlace = 19,
+    WrongFieldLength = 20,
+    TooDeep = 21,
+    OutsideLimits = 22,
 }

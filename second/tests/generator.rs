@@ -5,6 +5,14 @@ use second::lines::Bench;
 use second::words::LONGEST_LINE;
 use std::collections::BTreeSet;
 
+const KINDS: [Kind; 5] = [
+    Kind::Everything,
+    Kind::Readings,
+    Kind::Events,
+    Kind::Rooms,
+    Kind::Visits,
+];
+
 /// Generates so many lines of a kind.
 /// They are numbered by nothing but the seed.
 fn lines(kind: Kind, count: usize, seed: u64) -> Vec<String> {
@@ -23,7 +31,7 @@ fn answers(lines: &[String]) -> String {
     String::from_utf8(out).expect("answers are text")
 }
 
-/// Every number from 0 to 17 and each of the five reasons comes in 20,000 lines.
+/// Every number from 0 to 22 and each of the five reasons comes in 20,000 lines.
 /// Number 8 comes by write, by finish and by wake.
 #[test]
 fn every_number_is_reached() {
@@ -39,7 +47,7 @@ fn every_number_is_reached() {
             numbers.extend(channels.filter_map(|(_, number)| number.parse::<u8>().ok()));
             reasons.extend(answer.strip_prefix("? "));
         }
-        assert_eq!(numbers, (0..=17).collect(), "seed {seed}");
+        assert_eq!(numbers, (0..=22).collect(), "seed {seed}");
         assert_eq!(reasons.len(), 5, "seed {seed}");
         let spoken = lines.iter().filter(|line| !line.is_empty());
         let refused: BTreeSet<&str> = spoken
@@ -59,7 +67,7 @@ fn every_number_is_reached() {
 /// A shorter run is the start of a longer one.
 #[test]
 fn seeds_decide() {
-    for kind in [Kind::Everything, Kind::Readings, Kind::Events, Kind::Rooms] {
+    for kind in KINDS {
         let first = lines(kind, 5_000, 7);
         assert_eq!(first, lines(kind, 5_000, 7));
         assert_eq!(first[..1_000], lines(kind, 1_000, 7));
@@ -77,7 +85,7 @@ fn machines_agree() {
             mix = (mix ^ u64::from(byte)).wrapping_mul(0x0100_0000_01B3);
         }
     }
-    assert_eq!(mix, 14_828_101_901_994_784_820);
+    assert_eq!(mix, 2_361_365_198_313_408_686);
 }
 
 /// Each kind has its own commands only, and no line holds a newline.
@@ -97,6 +105,9 @@ fn kinds_have_their_commands() {
         .iter()
         .all(|line| starts(line, &["point", "cells", "rooms"])));
     assert!(!answers(&rooms).contains('?'));
+    let visits = lines(Kind::Visits, 10_000, 3);
+    assert!(visits.iter().all(|line| starts(line, &["visit"])));
+    assert!(visits.iter().all(|line| line.len() <= LONGEST_LINE));
     let walked = lines(Kind::Events, 20_000, 3);
     assert!(walked.iter().all(|line| starts(line, &events)));
     assert!(!answers(&walked).contains('?'));
@@ -105,7 +116,7 @@ fn kinds_have_their_commands() {
     let long = all.iter().filter(|line| line.len() > LONGEST_LINE).count();
     assert!((1..200).contains(&long), "{long}");
     let others = [
-        "cal", "comp", "point", "cells", "rooms", "wait", "poll", "i2c", "spi",
+        "cal", "comp", "point", "cells", "rooms", "wait", "poll", "i2c", "spi", "visit",
     ];
     for name in others.iter().chain(&events) {
         assert!(all.iter().any(|line| starts(line, &[name])), "{name}");

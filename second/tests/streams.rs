@@ -70,11 +70,15 @@ fn long_lines() {
 fn binary_junk() {
     let mut random = Random::new(5);
     let junk = random.bytes(1 << 20);
-    let words: [&[u8]; 14] = [
+    let words: [&[u8]; 18] = [
         b"comp ",
         b"point - - - ",
         b"rooms - - - 1 1 1 - - - 1 1 1 ",
         b"wait max ",
+        b"visit read 0100",
+        b"visit write 9 ( ",
+        b"7:-5:25767233:!10 ",
+        b") ",
         b"i2c write 76 ",
         b"spi decode ",
         b"poll 3 ",

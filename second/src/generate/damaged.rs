@@ -1,9 +1,9 @@
 //! Lines that are none of the commands, for each reason, and lines that just still are.
 
-use super::{buses, events, readings, rooms, times};
+use super::{buses, events, readings, rooms, times, visits};
 use crate::random::Random;
 
-const UNKNOWN: [&str; 16] = [
+const UNKNOWN: [&str; 18] = [
     "POWER",
     "Byte",
     "comp2",
@@ -11,6 +11,8 @@ const UNKNOWN: [&str; 16] = [
     "points - - - 1 1 1",
     "cell - - - 1 1 1",
     "rooms2",
+    "visits read - 9",
+    "Visit write 9",
     "calibrate",
     "reset",
     "?",
@@ -21,7 +23,7 @@ const UNKNOWN: [&str; 16] = [
     "\tpower",
     "wäke",
 ];
-const UNKNOWN_SECOND: [&str; 8] = [
+const UNKNOWN_SECOND: [&str; 13] = [
     "wait min 1 1 1",
     "wait  max 1 1 1",
     "wait 1 1 1",
@@ -30,8 +32,13 @@ const UNKNOWN_SECOND: [&str; 8] = [
     "spi",
     "spi reed F7 1",
     "i2c ",
+    "visit",
+    "visit ",
+    "visit write",
+    "visit show 010000 9",
+    "visit  read 010000 9",
 ];
-const NO_NUMBERS: [&str; 30] = [
+const NO_NUMBERS: [&str; 36] = [
     "wait max -1 0 0",
     "wait typ 1 +1 1",
     "wait max 1 1 1.0",
@@ -62,8 +69,14 @@ const NO_NUMBERS: [&str; 30] = [
     "rooms - - - 1 1 1 - - - 1 1 1 0 0 -1",
     "rooms - - - 1 1 1 - - - 1 1 1 0 0.5 0",
     "rooms - - - 1 1 x - - 0 1 1 1 0 0 0",
+    "visit read 01000G 9",
+    "visit read - -1",
+    "visit write ( 7:1:2:3 )",
+    "visit write 9 ( 7:1:2:3 ) ",
+    "visit write 9 ( 7:1:2:!x )",
+    "visit write 31 ( 7:1:2:4294967296 )",
 ];
-const ODD: [&str; 10] = [
+const ODD: [&str; 11] = [
     "poll 1 0",
     "poll 1 08090",
     "i2c write 76 F42 3",
@@ -74,18 +87,20 @@ const ODD: [&str; 10] = [
     "cells 123 - - 1 1 1",
     "rooms - - 0 1 1 1 - - - 1 1 1 0 0 x",
     "rooms - - - 1 1 1 - - 655 1 1 1 0 0 0",
+    "visit read 01000 257",
 ];
 const JUNK: &str = " -.,:;?!0189aFgGxX_\t\r\"'/éß−";
 
 /// Makes a line that is valid for the most part.
 /// It is of any subject.
 fn valid(random: &mut Random) -> String {
-    match random.below(6) {
+    match random.below(7) {
         0 => readings::reading(random),
         1 => times::wait(random),
         2 => times::poll(random),
         3 => buses::line(random),
         4 => rooms::line(random),
+        5 => visits::line(random),
         _ => events::any(random),
     }
 }
@@ -139,6 +154,9 @@ fn long(random: &mut Random) -> String {
         ("cells - - - 1 1 ", "0", "1"),
         ("rooms - - - 1 1 1 - - - 1 1 1 0 0 ", "0", "4294967295"),
         ("rooms - - - 1 1 1 - - ", "00", " 1 1 1 0 0 0"),
+        ("visit read 010000", "01", " 256"),
+        ("visit write 256 ( 7:-", "0", "5:1:!10 )"),
+        ("visit write 31", " (", ""),
     ]);
     let room = length - start.len() - end.len();
     let middle = filling.repeat(room / filling.len());
@@ -148,7 +166,14 @@ fn long(random: &mut Random) -> String {
 /// Makes a line whose lent buffer is too long.
 /// 256 is the longest allowed.
 fn long_buffer(random: &mut Random) -> String {
-    let start = random.pick(&["close", "i2c read 76 F7", "spi write F427", "spi decode -"]);
+    let start = random.pick(&[
+        "close",
+        "i2c read 76 F7",
+        "spi write F427",
+        "spi decode -",
+        "visit read 01",
+        "visit write",
+    ]);
     let length = random.pick(&[256_u64, 257, 1_000, 4_294_967_295]);
     format!("{start} {length}")
 }

@@ -7,10 +7,15 @@ mod buses;
 mod chips;
 mod damaged;
 mod events;
+pub mod files;
 mod readings;
+mod records;
 mod rooms;
+mod texts;
 mod times;
 mod tour;
+pub mod trees;
+mod visits;
 mod walks;
 
 use crate::lines::Bench;
@@ -26,6 +31,7 @@ pub enum Kind {
     Readings,
     Events,
     Rooms,
+    Visits,
 }
 
 /// The generator: its source, its own bench, and the lines not yet handed out.
@@ -77,6 +83,7 @@ impl Generator {
             Kind::Readings => self.readings(),
             Kind::Events => self.events(),
             Kind::Rooms => self.rooms(),
+            Kind::Visits => self.visits(),
             Kind::Everything if self.since_tour >= LINES_TO_TOUR => {
                 self.since_tour = 0;
                 self.tour();
@@ -107,12 +114,13 @@ impl Generator {
     /// Readings and walks take the most lines.
     fn anything(&mut self) {
         match self.random.below(100) {
-            0..=22 => self.readings(),
-            23..=34 => self.rooms(),
-            35..=39 => self.calibrations(),
-            40..=50 => self.waits(),
-            51..=61 => self.polls(),
-            62..=79 => self.buses(),
+            0..=20 => self.readings(),
+            21..=29 => self.rooms(),
+            30..=38 => self.visits(),
+            39..=42 => self.calibrations(),
+            43..=52 => self.waits(),
+            53..=62 => self.polls(),
+            63..=79 => self.buses(),
             80..=89 => self.events(),
             _ => self.damaged(),
         }
@@ -137,6 +145,12 @@ impl Generator {
     /// None of them changes the machine.
     fn rooms(&mut self) {
         self.run(4, 16, rooms::line);
+    }
+
+    /// Writes a run of visit records to be read and of steps to be written.
+    /// None of them changes the machine.
+    fn visits(&mut self) {
+        self.run(4, 16, visits::line);
     }
 
     /// Writes a few calibration blocks.

@@ -1,9 +1,12 @@
-//! A tour that reaches every number from 0 to 17 and every reason, by its making.
+//! A tour that reaches every number from 0 to 22 and every reason, by its making.
 
-use super::{chips, events, Generator};
+use super::{chips, events, trees, Generator};
 use crate::maps;
 use crate::sheet::{k2_words, k5_words, zero_divisor_words};
 use crate::spelling::{asked, input, reading, rooms};
+use crate::visits::trees::Tree;
+use crate::visits::writer::fields;
+use crate::visits::{cases, Step};
 
 impl Generator {
     /// Writes the tour, with seeded words and values where they don't matter.
@@ -11,6 +14,7 @@ impl Generator {
     pub(super) fn tour(&mut self) {
         self.tour_of_readings();
         self.tour_of_rooms();
+        self.tour_of_visits();
         self.tour_of_buses();
         self.tour_of_events();
         self.tour_of_limit();
@@ -68,6 +72,37 @@ impl Generator {
         }
     }
 
+    /// Reaches 18 to 22 and 9 by reading a record, and 19, 21, 22 and 9 by writing one.
+    /// The slot is seeded, its humidity is not.
+    fn tour_of_visits(&mut self) {
+        let mut slot = trees::slot(&mut self.random);
+        slot.humidity = Ok(102_401);
+        let beyond = Tree::Slot(slot);
+        slot.humidity = Ok(102_400);
+        let tree = Tree::Groups(vec![Tree::Slot(slot)]);
+        let record = tree.record();
+        let lost = fields(&slot);
+        let lines = [
+            cases::read(&record, 5),
+            cases::read(&record, 4),
+            cases::read(&record[..record.len() - 1], 5),
+            cases::read(&[&record[..], &[0]].concat(), 5),
+            cases::read(&cases::nested(2, &[2, 0, 3, 0, 0, 0]), 5),
+            cases::read(&cases::nested(3, &record), 11),
+            cases::read(&beyond.record(), 3),
+            cases::read(&cases::nested(1, &lost[7..]), 3),
+            cases::write(record.len(), &tree.steps()),
+            cases::write(record.len() - 1, &tree.steps()),
+            cases::write(40, &tree.steps()[..4]),
+            cases::write(40, &[Step::Open, Step::Close]),
+            cases::write(40, &[Step::Open; 5]),
+            cases::write(40, &beyond.steps()),
+        ];
+        for line in lines {
+            self.say(line);
+        }
+    }
+
     /// Reaches 4, 9, 15 and 16 on both buses.
     /// Each comes with a lent buffer that stays as it was.
     fn tour_of_buses(&mut self) {
@@ -107,7 +142,7 @@ impl Generator {
         self.script("fresh 4294967294;copied;write F4 25;write F4 25;finish 1 2 3;ledger");
     }
 
-    /// Reaches each of the five reasons, and those that the map room's lines can have.
+    /// Reaches each of the five reasons, and those that lines of the map room and of visits can have.
     /// None of these lines changes anything.
     fn tour_of_reasons(&mut self) {
         self.script("nothing;byte 1;open G7;poll 1 080;close 257");
@@ -116,6 +151,8 @@ impl Generator {
         self.script("rooms - - - 1 1 1 - - - 1 1 1 0 0");
         self.script("rooms - - - 1 1 1 - - - 1 1 1 0 4294967296 0");
         self.script("rooms - - - 1 1 1 - 0 - 1 1 1 0 x 0");
+        self.script("visit;visit pack;visit write;visit read -;visit read 010 9;visit read - 257");
+        self.script("visit write x;visit write 257 x;visit write 9 ( 7:1:2 );visit write 9 ( ");
     }
 
     /// Writes several lines that stand in one text.
