@@ -16,7 +16,7 @@ use Rattle.visit.specs.Records.{Listed}
 
 -- ---- lengths
 
-words-length : (s : Step) → length (words s) ≡ wordsEach
+pub words-length : (s : Step) → length (words s) ≡ wordsEach
 unfolding words
 words-length opened = refl
 words-length (slot time t p h) = refl

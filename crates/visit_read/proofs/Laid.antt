@@ -9,7 +9,7 @@ use lib.Seq.{take-at, drop-append-add, drop-drop, length-take-le}
 use Rattle.visit.specs.declared.Step.{Step}
 use Rattle.visit.specs.Words.{words, wordsOf}
 use Rattle.visit_step.specs.Places.{over, laid}
-use Rattle.visit_step.proofs.Kept.{words-length}
+use Rattle.visit.proofs.Lists.{words-length}
 
 -- steps one after the other, the first as step k
 unfoldable pub laidAll : List Step → ℕ → List ℕ → List ℕ

@@ -1,3 +1,2 @@
 pub mod Over
 pub mod Arms
-pub mod Kept

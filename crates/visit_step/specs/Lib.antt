@@ -1,3 +1,2 @@
--- A step at a place of a lent list, and that a step's words say that step again.
+-- A step at a place of a lent list.
 pub mod Places
-pub mod Kept

@@ -2,7 +2,7 @@ use mathlib.Core.Path.{_∙_, ap}
 use lib.ListN.{length}
 use borrow.Author.Needs.{needs}
 use Rattle.visit_step.proofs.Arms.{laid-there, laid-not}
-use Rattle.visit_step.proofs.Kept.{words-length}
+use Rattle.visit.proofs.Lists.{words-length}
 use Rattle.visit_step.proofs.lay.Statement.{statement}
 use Rattle.visit_step.proofs.lay.Tie as tie
 
