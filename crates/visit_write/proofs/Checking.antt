@@ -40,7 +40,7 @@ module _ (w : List ℕ) (count k : ℕ) (st : Stage) (f : Checking w count k st)
       record {
         counted = f .counted;
         within = omega arith;
-        same = ap (λ (u : Turn). goOn u k (λ after. checked after (drop (k + 1) (fromWords w)) (k + 1))) (sym o) ∙ one-more s t h e g
+        same = ap (λ (u : Turn). goOn u k (λ after. checked after (drop (k + 1) (fromWords w)) (k + 1))) (sym o) ∙ one-more s t h e g;
       }
 
   pub checking-halt : (s : Step) (t : Turn) (number : ℕ) → k < count → s ≡ stepAt w k → t ≡ turn st s → t ≡ Halt number

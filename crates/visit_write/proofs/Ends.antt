@@ -50,7 +50,7 @@ opened-ends body [] total m l r t e =
       one = omega (arith, e .one, e .two);
       two = omega (arith, e .three);
       three = omega (arith, e .four);
-      four = omega (arith, j)
+      four = omega (arith, j);
     }
 opened-ends body (b ∷ bs) total m l r t e =
     let i : length (framed body ++ b) ≡ 3 + length body + length b = omega (arith, length-append body b) in
@@ -60,7 +60,7 @@ opened-ends body (b ∷ bs) total m l r t e =
       one = omega (arith, i, e .two);
       two = omega (arith, i, e .three);
       three = omega (arith, i, e .four);
-      four = omega (arith, i, j, a)
+      four = omega (arith, i, j, a);
     }
 
 slot-ends : (bytes : List ℕ) (f : Frames) (m : Marks) (at : ℕ) → at + length bytes ≡ m .at → Ends f m
@@ -72,7 +72,7 @@ slot-ends bytes f m at h e =
       one = omega (arith, e .one, j);
       two = omega (arith, e .two, j);
       three = omega (arith, e .three, j);
-      four = omega (arith, e .four, j)
+      four = omega (arith, e .four, j);
     }
 
 moved-ends : (s : Step) (ss : List Step) (total : ℕ) (m : Marks) → length (frames ss .outer) ≤ 4 → size s ≤ m .at
@@ -99,7 +99,7 @@ unfolding sizeOf
 step-stands s ss total m l r w =
     record {
       placed = omega (arith, moved-at s total m (m .at - size s), w .placed);
-      ends = moved-ends s ss total m l r (w .placed) (w .ends)
+      ends = moved-ends s ss total m l r (w .placed) (w .ends);
     }
 
 pub by-parts : (s : Step) (total : ℕ) (m r : Marks) (lent after : List ℕ) (at : ℕ) → (at, after) ≡ laidBack s (m .first - m .at) (m .at) lent

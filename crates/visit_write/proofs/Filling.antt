@@ -29,7 +29,7 @@ unfolding over
 over-before bytes rest lent out at end h r o =
     let t : length (take end lent) ≡ end = length-take-le end lent r in
     let e₁ : take at out ≡ take at lent =
-            ap (take at) o ∙ take-append-le at (take end lent) rest (omega arith) ∙ take-take at end lent (omega arith) in
+    ap (take at) o ∙ take-append-le at (take end lent) rest (omega arith) ∙ take-take at end lent (omega arith) in
     let e₂ : drop (at + length bytes) out ≡ rest = ap (drop (at + length bytes)) o ∙ rw h (drop-at (take end lent) rest end t) in
     rw (e₁, e₂)
 
@@ -45,8 +45,14 @@ laidIn lent at total ss = take at lent ++ (unrolled (frames ss) ++ drop total le
 laid-length : (lent : List ℕ) (at total : ℕ) (ss : List Step) → at + sizeOf ss ≡ total → total ≤ length lent
     → length (laidIn lent at total ss) ≡ length lent
 laid-length lent at total ss e r =
-    omega (arith, length-append (take at lent) (unrolled (frames ss) ++ drop total lent), length-append (unrolled (frames ss)) (drop total lent),
-      length-take-le at lent (omega arith), length-drop total lent, unrolled-length ss)
+    omega (
+      arith,
+      length-append (take at lent) (unrolled (frames ss) ++ drop total lent),
+      length-append (unrolled (frames ss)) (drop total lent),
+      length-take-le at lent (omega arith),
+      length-drop total lent,
+      unrolled-length ss,
+    )
 
 module _ (s : Step) (rest : List Step) (total : ℕ) (m : Marks) (lent out : List ℕ) where
   step-laid : Small s → size s ≤ m .at → total ≤ tag.mostBytes → total ≤ length lent → Stands rest total m
@@ -60,9 +66,9 @@ module _ (s : Step) (rest : List Step) (total : ℕ) (m : Marks) (lent out : Lis
       let all : length out ≡ length lent = ap length o ∙ laid-length lent (m .at) total rest (w .placed) room in
       let back = laid-back s inner (m .at) out (omega (arith, w .placed)) r in
       let before = over-before (lead s inner) (unrolled (frames rest) ++ drop total lent) lent out (m .at - size s) (m .at)
-              (omega (arith, lead-length s inner)) (omega (arith, w .placed)) o in
+      (omega (arith, lead-length s inner)) (omega (arith, w .placed)) o in
       let joined : lead s inner ++ (unrolled (frames rest) ++ drop total lent) ≡ unrolled (frames (s ∷ rest)) ++ drop total lent =
-              rw (lead-first s rest small few) (sym (append-assoc (lead s inner) (unrolled (frames rest)) (drop total lent))) in
+      rw (lead-first s rest small few) (sym (append-assoc (lead s inner) (unrolled (frames rest)) (drop total lent))) in
       rw (held, back, before, joined)
 
 -- ---- the loop
@@ -87,7 +93,7 @@ module _ (w lent : List ℕ) (total : ℕ) (fits : checked stage.Start (fromWord
       record {
         within = omega arith;
         stands = rw none (at-start total);
-        laid = rw none (sym (take-append-drop total lent))
+        laid = rw none (sym (take-append-drop total lent));
       }
 
   pub filling-step : (out after : List ℕ) (k : ℕ) (s : Step) (m r : Marks) → Filling w lent out total k m → 0 < k
@@ -106,7 +112,7 @@ module _ (w lent : List ℕ) (total : ℕ) (fits : checked stage.Start (fromWord
       record {
         within = omega (arith, f .within);
         stands = rw (next, marks) (step-stands s (drop k ss) total m (well .1 .0) place (f .stands));
-        laid = rw (next, at) (ap (λ (p : Marks × List ℕ). p .1) both)
+        laid = rw (next, at) (ap (λ (p : Marks × List ℕ). p .1) both);
       }
 
   pub first-after : (out : List ℕ) (k : ℕ) (m : Marks) → Filling w lent out total k m → m .at ≤ m .first

@@ -37,8 +37,14 @@ slot-length time t p h =
     let a = writtenBytes place.Temperature t in
     let b = writtenBytes place.Pressure p in
     let d = writtenBytes place.Humidity h in
-    omega (arith, length-append a (b ++ d), length-append b d,
-      written-length place.Temperature t, written-length place.Pressure p, written-length place.Humidity h)
+    omega (
+      arith,
+      length-append a (b ++ d),
+      length-append b d,
+      written-length place.Temperature t,
+      written-length place.Pressure p,
+      written-length place.Humidity h,
+    )
 
 framed-length : (body : List ℕ) (outer : List (List ℕ)) → length (unrolled (framedOnto body outer)) ≡ 3 + length (body ++ joined outer)
 framed-length body [] = omega arith

@@ -5,4 +5,5 @@ pub mod Ends
 pub mod Filling
 pub mod Checking
 pub mod Counting
-pub mod Answers
+pub mod Cases
+pub mod OneAnswer

@@ -2,7 +2,7 @@
 use Prim.Native.Nat.{ℕ, zero, suc, _+_, _-_, _≤_, _<_}
 use mathlib.Core.Bool.{true, false}
 use mathlib.Core.List.{List, [], _∷_}
-use mathlib.Core.Path.{_≡_, refl, ap, _∙_}
+use mathlib.Core.Path.{_≡_, refl, sym, ap, subst, _∙_}
 use native.Mathlib.Omega.{arith}
 use borrow.Author.Tests.{leb-true, ltb-true, ltb-false}
 use lib.Dec.{ltb, leb}
@@ -47,7 +47,7 @@ fits-small time t p h e =
     let d = both (isWithin place.Pressure p) _ (b .1) in
     (in-byte place.Temperature t (b .0), (in-byte place.Pressure p (d .0), in-byte place.Humidity h (d .1)))
 
--- ---- one step
+-- ---- one step: what it leads to, and that a refusal's number is not 0
 
 abbrev InRange : Stage → Type 0
 InRange stage.Start = Unit
@@ -79,7 +79,7 @@ record Taken (s : Step) (st next : Stage) : Type 0 where
 
 abbrev TakenBy : Step → Stage → Turn → Type 0
 TakenBy s st (Onward next) = Taken s st next
-TakenBy s st (Halt number) = Unit
+TakenBy s st (Halt number) = 0 < number
 
 up-taken : (l : ℕ) (held : _) → l ≤ 3 → TakenBy Close (stage.Open l held) (turn (stage.Open l holds.Slot) Close)
 unfolding turn
@@ -91,27 +91,27 @@ up-taken l held r =
 taken : (st : Stage) (s : Step) → InRange st → TakenBy s st (turn st s)
 unfolding turn
 taken stage.Start Open r = record { range = omega arith; levels = refl; small = tt }
-taken stage.Start (Slot time t p h) r = tt
-taken stage.Start Close r = tt
-taken stage.Start Stray r = tt
-taken (stage.Open zero holds.Nothing) Open r = tt
+taken stage.Start (Slot time t p h) r = omega arith
+taken stage.Start Close r = omega arith
+taken stage.Start Stray r = omega arith
+taken (stage.Open zero holds.Nothing) Open r = omega arith
 taken (stage.Open (suc l) holds.Nothing) Open r = record { range = omega arith; levels = omega arith; small = tt }
 taken (stage.Open l holds.Nothing) (Slot time t p h) r =
     pick (TakenBy (Slot time t p h) (stage.Open l holds.Nothing)) (slotFits time t p h)
     (λ e. record { range = r; levels = refl; small = fits-small time t p h e })
-    (λ e. tt)
-taken (stage.Open l holds.Nothing) Close r = tt
-taken (stage.Open l holds.Nothing) Stray r = tt
-taken (stage.Open zero holds.Groups) Open r = tt
+    (λ e. omega arith)
+taken (stage.Open l holds.Nothing) Close r = omega arith
+taken (stage.Open l holds.Nothing) Stray r = omega arith
+taken (stage.Open zero holds.Groups) Open r = omega arith
 taken (stage.Open (suc l) holds.Groups) Open r = record { range = omega arith; levels = omega arith; small = tt }
-taken (stage.Open l holds.Groups) (Slot time t p h) r = tt
+taken (stage.Open l holds.Groups) (Slot time t p h) r = omega arith
 taken (stage.Open l holds.Groups) Close r = up-taken l holds.Groups r
-taken (stage.Open l holds.Groups) Stray r = tt
-taken (stage.Open l holds.Slot) Open r = tt
-taken (stage.Open l holds.Slot) (Slot time t p h) r = tt
+taken (stage.Open l holds.Groups) Stray r = omega arith
+taken (stage.Open l holds.Slot) Open r = omega arith
+taken (stage.Open l holds.Slot) (Slot time t p h) r = omega arith
 taken (stage.Open l holds.Slot) Close r = up-taken l holds.Slot r
-taken (stage.Open l holds.Slot) Stray r = tt
-taken stage.Done s r = tt
+taken (stage.Open l holds.Slot) Stray r = omega arith
+taken stage.Done s r = omega arith
 
 -- ---- all steps
 
@@ -162,3 +162,22 @@ pub sound-later : (k : ℕ) (ss : List Step) → Sound ss → Sound (drop k ss)
 sound-later zero ss h = h
 sound-later (suc k) [] h = tt
 sound-later (suc k) (s ∷ ss) h = sound-later k ss (h .1 .1)
+
+abbrev Told : Checked → Type 0
+Told fine = Unit
+Told (wrong number place) = 0 < number
+
+told-on : (s : Step) (st : Stage) (i : ℕ) (t : Turn) (k : Stage → Checked) → TakenBy s st t → ((next : Stage) → InRange next → Told (k next)) → Told (goOn t i k)
+told-on s st i (Onward next) k h rest = rest next (h .range)
+told-on s st i (Halt number) k h rest = h
+
+told-from : (ss : List Step) (st : Stage) (i : ℕ) → InRange st → Told (checked st ss i)
+unfolding checked
+told-from [] stage.Start i r = omega arith
+told-from [] (stage.Open l held) i r = omega arith
+told-from [] stage.Done i r = tt
+told-from (s ∷ ss) st i r =
+    told-on s st i (turn st s) (λ next. checked next ss (i + 1)) (taken st s r) (λ next. told-from ss next (i + 1))
+
+pub not-zero : (ss : List Step) (number place : ℕ) → wrong number place ≡ checked stage.Start ss 0 → 0 < number
+not-zero ss number place e = subst Told (sym e) (told-from ss stage.Start 0 tt)

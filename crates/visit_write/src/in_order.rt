@@ -3,7 +3,7 @@ ghost use mathlib.Core.Path.{_≡_};
 ghost use Rattle.visit.specs.declared.Stage.the-variants as stages;
 ghost use Rattle.visit.specs.Words.{fromWords};
 ghost use Rattle.visit.specs.Writer.{atEnd, checked};
-ghost use Rattle.visit_write.specs.Written.{found};
+ghost use Rattle.visit_write.specs.Answers.{found};
 use crate::Checks;
 use visit::Stage;
 use visit::Turn;

@@ -4,7 +4,7 @@ ghost use Rattle.visit.specs.declared.Stage.the-variants as stage;
 ghost use Rattle.visit.specs.Words.{fromWords};
 ghost use Rattle.visit.specs.Writer.{checked, fine, bytesOf};
 ghost use Rattle.visit.specs.Lent.{writeBy, writeInto};
-ghost use Rattle.visit_write.specs.Written.{writtenAnswer};
+ghost use Rattle.visit_write.specs.Answers.{writtenAnswer, Tells};
 
 mod fill;
 mod in_order;
@@ -18,13 +18,13 @@ pub enum Written {
 }
 
 // What the checks find: nothing, or a number and the place of a step.
-pub enum Checks {
+pub(crate) enum Checks {
     Fine,
     Wrong { number: u8, place: usize },
 }
 
 // Where the bytes laid down so far begin, and where the groups that are still to be opened end, the innermost first.
-pub struct Marks {
+pub(crate) struct Marks {
     pub at: usize,
     pub first: usize,
     pub second: usize,
@@ -36,6 +36,7 @@ pub struct Marks {
 fn write_checked(steps: &[u32], out: &mut [u8]) -> Written
     requires { ⌜ checked stage.Start (fromWords (now steps)) 0 ≡ fine ⌝ }
     ensures { λ r. ⌜ (writtenAnswer r, now (out .exit)) ≡ writeBy fine (bytesOf (fromWords (now (steps .entry)))) (now (out .entry)) ⌝ }
+    ensures { λ r. ⌜ Tells r ⌝ }
 {
     let bytes = sizes::total(steps);
     if visit::MOST_BYTES < bytes {
@@ -53,6 +54,7 @@ fn write_checked(steps: &[u32], out: &mut [u8]) -> Written
 // A refusal writes nothing, and bytes past the record stay.
 pub fn write(steps: &[u32], out: &mut [u8]) -> Written
     ensures { λ r. ⌜ (writtenAnswer r, now (out .exit)) ≡ writeInto (now (steps .entry)) (now (out .entry)) ⌝ }
+    ensures { λ r. ⌜ Tells r ⌝ }
 {
     let checks = in_order::check(steps);
     match checks {

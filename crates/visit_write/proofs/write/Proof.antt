@@ -1,5 +1,6 @@
-use Rattle.visit_write.proofs.Answers.{by-checks}
-use Rattle.visit_write.specs.Written.{found}
+use Rattle.visit_write.proofs.Sound.{not-zero}
+use Rattle.visit_write.proofs.Cases.{by-checks}
+use Rattle.visit_write.specs.Answers.{found}
 use Rattle.visit.specs.Writer.{fine, wrong}
 use mathlib.Core.Path.{refl, sym, ap, _∙_}
 use borrow.Author.Needs.{needs}
@@ -22,12 +23,15 @@ same-length : tie.Need-same-length
 same-length c = search needs
 
 returns : tie.Need-returns
-returns c = 
+returns c =
     let told = c .before .before .before .before in
-    by-checks _ _ fine _ _ (sym (ap found (told .enum-told .given .1)) ∙ told .before .before .check .ensures) (c .before .before .write-checked .ensures)
+    let done = c .before .before .write-checked .ensures in
+    (by-checks _ _ fine _ _ (sym (ap found (told .enum-told .given .1)) ∙ told .before .before .check .ensures) (done .0), done .1)
 
 returns-2 : tie.Need-returns-2
-returns-2 c = by-checks _ _ (wrong _ _) _ _ (sym (ap found (c .before .checks .given .1)) ∙ c .before .before .before .check .ensures) refl
+returns-2 c =
+    let refused = sym (ap found (c .before .checks .given .1)) ∙ c .before .before .before .check .ensures in
+    (by-checks _ _ (wrong _ _) _ _ refused refl, not-zero _ _ _ refused)
 
 pub write-spec : {M : Type 1} → statement M
 write-spec =

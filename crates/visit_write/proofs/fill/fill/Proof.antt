@@ -20,7 +20,7 @@ step-at-requires : tie.Need-step-at-requires Inv-loop μ-loop
 step-at-requires c κs = search needs
 
 step-back-requires : tie.Need-step-back-requires Inv-loop μ-loop
-step-back-requires c κs = 
+step-back-requires c κs =
     let p = c .before .before .before .before .before .before .pre in
     first-after _ _ _ (p .0) (p .1 .0) (p .1 .1 .0) (p .1 .1 .1) _ _ _ (c .before .before .before .loop .inv)
 
@@ -28,19 +28,19 @@ loop-less : tie.Need-loop-less Inv-loop μ-loop
 loop-less c = omega arith
 
 loop-again : tie.Need-loop-again Inv-loop μ-loop
-loop-again c = 
+loop-again c =
     let turn = c .before .before .before .before in
     let p = turn .before .before .before .before .before .pre in
     filling-step _ _ _ (p .0) (p .1 .0) (p .1 .1 .0) (p .1 .1 .1) _ _ _ _ _ _ (turn .before .before .loop .inv) (turn .before .loop-test .taken)
     (turn .step-at .ensures) (c .before .before .step-back .ensures)
 
 same-length : tie.Need-same-length Inv-loop μ-loop
-same-length c = 
+same-length c =
     let p = c .before .before .before .before .pre in
     same-room _ _ _ (p .0) (p .1 .0) (p .1 .1 .0) (p .1 .1 .1) _ _ _ (c .before .loop .inv)
 
 returns : tie.Need-returns Inv-loop μ-loop
-returns c = 
+returns c =
     let p = c .before .before .before .before .pre in
     filling-end _ _ _ (p .0) (p .1 .0) (p .1 .1 .0) (p .1 .1 .1) _ _ _ (c .before .loop .inv) (c .loop-test .left)
 

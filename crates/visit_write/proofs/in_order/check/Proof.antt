@@ -28,7 +28,7 @@ enum-known-turn-2 : tie.Need-enum-known-turn-2 Inv-loop μ-loop
 enum-known-turn-2 c = search needs
 
 returns : tie.Need-returns Inv-loop μ-loop
-returns c = 
+returns c =
     let turn = c .before .before .before in
     checking-halt _ _ _ _ (turn .before .before .before .loop .inv) _ _ _ (turn .before .before .loop-test .taken) (turn .before .step-at .ensures)
     (turn .turn .ensures) (c .before .turn3 .given .1)
@@ -40,7 +40,7 @@ loop-less : tie.Need-loop-less Inv-loop μ-loop
 loop-less c = omega arith
 
 loop-again : tie.Need-loop-again Inv-loop μ-loop
-loop-again c = 
+loop-again c =
     let turn = c .before .before .before in
     checking-onward _ _ _ _ (turn .before .before .before .loop .inv) _ _ _ (turn .before .before .loop-test .taken) (turn .before .step-at .ensures)
     (turn .turn .ensures) (c .before .turn2 .given .1)

@@ -16,22 +16,23 @@ use Rattle.visit.specs.Lent.{numberAt, writeBy, writeSteps, writeInto}
 use Rattle.visit_write.specs.Walk.{sizeOf}
 use Rattle.visit_write.proofs.Frames.{bytes-length}
 
+pub all-counted : (ss : List Step) (total : ℕ) → checked stage.Start ss 0 ≡ fine → total ≡ min (sizeOf ss) 65536 → total ≤ tag.mostBytes
+    → total ≡ length (bytesOf ss)
+all-counted ss total fits counted h = omega (arith, bytes-length ss fits)
+
 module _ (ss : List Step) (lent : List ℕ) (total : ℕ) (fits : checked stage.Start ss 0 ≡ fine) (counted : total ≡ min (sizeOf ss) 65536) where
   pub too-long : tag.mostBytes < total → (refused no.wrongLength, lent) ≡ writeBy fine (bytesOf ss) lent
   too-long h = rw (lt-ltb tag.mostBytes (length (bytesOf ss)) (omega (arith, bytes-length ss fits)))
 
-  pub all-counted : total ≤ tag.mostBytes → total ≡ length (bytesOf ss)
-  all-counted h = omega (arith, bytes-length ss fits)
-
   pub no-room : total ≤ tag.mostBytes → length lent < total → (refused no.bufferTooShort, lent) ≡ writeBy fine (bytesOf ss) lent
   no-room h r =
-      let e = all-counted h in
+      let e = all-counted ss total fits counted h in
       rw (le-ltb tag.mostBytes (length (bytesOf ss)) (omega arith), lt-ltb (length lent) (length (bytesOf ss)) (omega arith))
 
   pub all-written : (after : List ℕ) → total ≤ tag.mostBytes → total ≤ length lent → after ≡ bytesOf ss ++ drop total lent
       → (given (total ∷ []), after) ≡ writeBy fine (bytesOf ss) lent
   all-written after h r o =
-      let e = all-counted h in
+      let e = all-counted ss total fits counted h in
       rw (le-ltb tag.mostBytes (length (bytesOf ss)) (omega arith), le-ltb (length lent) (length (bytesOf ss)) (omega arith), o, e)
 
 module _ (w lent : List ℕ) where

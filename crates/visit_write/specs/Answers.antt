@@ -1,4 +1,5 @@
--- The writer's answer in the paper's terms, and what its checks found.
+-- What the writer answers, in the paper's terms, and what its checks find.
+use Prim.Native.Nat.{ℕ, _<_}
 use mathlib.Core.List.{[], _∷_}
 use Rattle.paper.specs.Answers.{Answer, given, refused}
 use Rattle.visit.specs.Lent.{numberAt}
@@ -8,11 +9,17 @@ use Rattle.visit_write.specs.declared.Written.the-variants.{Bytes, Refus
 use Rattle.visit_write.specs.declared.Checks.{Checks}
 use Rattle.visit_write.specs.declared.Checks.the-variants.{Fine, Wrong}
 
--- the bytes written, a number alone, or a number with a step's place
+-- the paper's number and values for each case of the enum
 abbrev pub writtenAnswer : Written → Answer
 writtenAnswer (Bytes n) = given (n ∷ [])
 writtenAnswer (Refused number) = refused number
 writtenAnswer (RefusedAt number place) = numberAt number place
+
+-- a refusal's number is not 0
+abbrev pub Tells : Written → Type 0
+Tells (Bytes n) = Unit
+Tells (Refused number) = 0 < number
+Tells (RefusedAt number place) = 0 < number
 
 abbrev pub found : Checks → Checked
 found Fine = fine
