@@ -133,8 +133,10 @@ pub field-same : (l : ℕ) (s : List ℕ) (end : ℕ) → end ≤ length s → (
     → ShowsField s end at (reader.fieldOf l p (slice at end s) at) k list (fieldAt l s end p at k list)
 unfolding reader.fieldOf fieldAt
 field-same zero s end b p at k list h =
-    subst (λ x. ShowsField s end at (reader.fieldFrom (λ body. reader.refused no.tooDeep at) x) k list (onFront (frontAt p s end at) list (λ next. (field.Refused no.tooDeep at, list)))) (sym (reads-fronts p s end at h b))
-    (front-field s end at k list (frontAt p s end at) (λ body. reader.refused no.tooDeep at) (λ next. (field.Refused no.tooDeep at, list)) (front-moves p s end at) (λ next m e. refl))
+    let inner : List ℕ → reader.Read = λ body. reader.refused no.tooDeep at in
+    let g : ℕ → Field × List ℕ = λ next. (field.Refused no.tooDeep at, list) in
+    subst (λ x. ShowsField s end at (reader.fieldFrom inner x) k list (onFront (frontAt p s end at) list g)) (sym (reads-fronts p s end at h b))
+    (front-field s end at k list (frontAt p s end at) inner g (front-moves p s end at) (λ next m e. refl))
 field-same (suc l) s end b p at k list h =
     let inner : List ℕ → reader.Read = λ body. reader.bodyOf (reader.fieldOf l) body (at + 3) in
     let g : ℕ → Field × List ℕ = λ next. closeAfter next (bodyAt (fieldAt l s next) s next (at + 3) (k + 1) (laid Open k list)) in

@@ -1,7 +1,7 @@
 -- A whole record, and how many steps it has.
 use Prim.Native.Nat.{ℕ}
 use mathlib.Core.Bool.{cond}
-use mathlib.Core.List.{List, [], _∷_}
+use mathlib.Core.List.{List, []}
 use lib.Dec.{ltb}
 use lib.ListN.{length}
 use Rattle.visit.specs.declared.Place.the-variants as place
@@ -25,6 +25,6 @@ wholeAfter end x = wholeBy end (x .0) (x .1)
 unfoldable pub wholeAt : List ℕ → List ℕ → Filling × List ℕ
 wholeAt s list = wholeAfter (length s) (fieldAt tag.levels s (length s) place.Group 0 0 list)
 
--- read with a list that has no room for any
-unfoldable pub countAt : List ℕ → Filling
-countAt s = wholeAt s (0 ∷ []) .0
+-- read with a list that has no room for any; the one that is lent stays as it was
+unfoldable pub countAt : List ℕ → List ℕ → Filling × List ℕ
+countAt s list = (wholeAt s [] .0, list)

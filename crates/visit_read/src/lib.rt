@@ -37,7 +37,7 @@ pub fn read_record(bytes: &[u8], steps: &mut [u32]) -> Read
     if bytes.len() > visit::MOST_BYTES {
         return Read::Refused(paper::WRONG_LENGTH);
     }
-    let c = whole::count(bytes);
+    let c = whole::count(bytes, steps);
     match c {
         Filling::Done { filled } => {
             if steps.len() / visit::WORDS < filled {

@@ -30,10 +30,10 @@ pub(crate) fn read_whole(bytes: &[u8], list: &mut [u32]) -> Filling
     }
 }
 
-// How many steps the record has, by a list that has no room for any.
-pub(crate) fn count(bytes: &[u8]) -> Filling
-    ensures { λ r. ⌜ r ≡ countAt (now (bytes .entry)) ⌝ }
+// How many steps the record has: read into the empty part at the end of the list, so that nothing is written.
+pub(crate) fn count(bytes: &[u8], list: &mut [u32]) -> Filling
+    ensures { λ r. ⌜ (r, now (list .exit)) ≡ countAt (now (bytes .entry)) (now (list .entry)) ⌝ }
 {
-    let mut none = [0u32; 1];
-    read_whole(bytes, &mut none)
+    let start = list.len();
+    read_whole(bytes, &mut list[start..])
 }

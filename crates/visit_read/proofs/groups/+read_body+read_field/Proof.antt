@@ -182,7 +182,8 @@ field-not-closed t c =
     let opened = body .before .before .before .before in
     let f = body .before .before .before .before .before .before .before .before in
     let deeper = body .before .before .before .before .before .before .if1 .left in
-    (group.field-not-closed _ _ _ _ _ _ _ _ (f .before .before .front-at .ensures) _ (f .f .given .1) deeper _ (opened .lay .ensures) _ _ (body .read-body .ensures .0) _ _ (c .before .b2 .given .1), tt)
+    let front = f .before .before .front-at .ensures in
+    (group.field-not-closed _ _ _ _ _ _ _ _ front _ (f .f .given .1) deeper _ (opened .lay .ensures) _ _ (body .read-body .ensures .0) _ _ (c .before .b2 .given .1), tt)
 
 pub +read-body+read-field-spec : {M : Type 1} → statement M
 +read-body+read-field-spec = close μ-read-body μ-read-field (λ t. read-body-lts.spec (body-calls t)
@@ -233,5 +234,8 @@ pub +read-body+read-field-spec : {M : Type 1} → statement M
     (field-closes t)
     (λ c. search needs)
     (field-not-closed t)
-    (λ c. (group.field-told _ _ _ _ _ _ _ _ (c .before .before .before .front-at .ensures) _ _ (c .before .f2 .given .1), told-moves _ _ _ _ _ _ _ (c .before .before .before .front-at .ensures) (c .before .f2 .given .1)))
+    (λ c.
+    let front = c .before .before .before .front-at .ensures in
+    let f = c .before .f2 .given .1 in
+    (group.field-told _ _ _ _ _ _ _ _ front _ _ f, told-moves _ _ _ _ _ _ _ front f))
     (λ c. (group.field-refused _ _ _ _ _ _ _ _ (c .before .before .before .front-at .ensures) _ _ (c .before .f3 .given .1), tt))
