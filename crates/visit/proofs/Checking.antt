@@ -1,7 +1,7 @@
 -- The steps of a valid tree pass the checks.
 use Prim.Native.Nat.{ℕ, zero, suc, _+_, _*_, _≤_, _<_}
 use native.Mathlib.Omega.{arith}
-use borrow.Author.Tests.{le-leb, ne-eqb}
+use borrow.Author.Tests.{le-leb, lt-ltb}
 use mathlib.Core.Bool.{Bool, true, _&&_}
 use mathlib.Core.List.{List, [], _∷_, _++_, append-assoc}
 use mathlib.Core.Path.{_≡_, refl, ap, _∙_}
@@ -42,7 +42,7 @@ abbrev Like : Stage → List Step → ℕ → Stage → List Step → Type 0
 Like st ss i st′ ss′ = (j : ℕ) × (checked st ss i ≡ checked st′ ss′ j)
 
 pub up-one : (l : ℕ) → l < 3 → up l ≡ stage.Open (suc l) holds.Groups
-up-one l h = rw (ne-eqb l 3 (omega arith))
+up-one l h = rw (lt-ltb l 3 h)
 
 -- a close, whatever a group holds
 close-group : (g : Group) (l : ℕ) (ss : List Step) (i : ℕ) → Like (stage.Open l (heldBy g)) (closed ∷ ss) i (up l) ss
