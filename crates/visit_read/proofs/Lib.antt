@@ -2,7 +2,6 @@
 pub mod Laid
 pub mod SlotCases
 pub mod GroupCases
-pub mod Numbers
 pub mod SameSlots
 pub mod SameGroups
 pub mod SameWhole

@@ -25,7 +25,7 @@ use Rattle.visit_read.specs.Answers.{readAnswer, Tells}
 use Rattle.visit_read.specs.Groups.{fieldAt}
 use Rattle.visit_read.specs.Whole.{wholeBy, wholeAfter, wholeAt, countAt}
 use Rattle.visit_read.proofs.Laid.{laidAll, all-laid}
-use Rattle.visit_read.proofs.Numbers.{InRead, in-record}
+use Rattle.visit.proofs.Faults.{ReadFault, read-fault}
 use Rattle.visit_read.proofs.SameSlots.{ShowsRead, ShowsField}
 use Rattle.visit_read.proofs.SameGroups.{field-same}
 
@@ -102,9 +102,9 @@ module _ (s lent : List ℕ) (h : length s ≤ tag.mostBytes) (x : Filling) (lis
           same-refusal q = let a : n ≡ m = cc in let b : o ≡ p = cc in rw (a, b)
 
   pub refusal-told : (n o : ℕ) → x ≡ filling.Refused n o → Tells (RefusedAt n o)
-  refusal-told n o e = go (reader.readRecord s) (whole-same s []) (in-record s)
+  refusal-told n o e = go (reader.readRecord s) (whole-same s []) (read-fault s)
     where
-      go : (r : reader.Read) → ShowsRead r 0 [] (wholeAt s []) → InRead r → Tells (RefusedAt n o)
+      go : (r : reader.Read) → ShowsRead r 0 [] (wholeAt s []) → ReadFault r → Tells (RefusedAt n o)
       go (reader.read held) w i = done-refused (0 + length held) n o (sym (sym e ∙ is-counted ∙ ap (λ (z : Filling × List ℕ). z .0) w))
       go (reader.refused m p) w i = same-number (sym e ∙ is-counted ∙ w)
         where

@@ -21,7 +21,8 @@ use Rattle.visit.specs.declared.Step.the-variants.{Open, Slot, Close, Stray}
 use Rattle.visit.specs.declared.Turn.{Turn}
 use Rattle.visit.specs.declared.Turn.the-variants.{Onward, Halt}
 use Rattle.visit.specs.Tree.{most}
-use Rattle.visit.specs.Writer.{isWithin, slotFits, turn, Checked, fine, wrong, goOn, checked, framedOnto, frames}
+use Rattle.visit.specs.Writer.{isWithin, slotFits, turn, fine, wrong, goOn, checked, framedOnto, frames}
+use Rattle.visit.proofs.Faults.{CheckedFault, checked-fault}
 
 -- ---- a step's numbers
 
@@ -79,7 +80,7 @@ record Taken (s : Step) (st next : Stage) : Type 0 where
 
 abbrev TakenBy : Step → Stage → Turn → Type 0
 TakenBy s st (Onward next) = Taken s st next
-TakenBy s st (Halt number) = 0 < number
+TakenBy s st (Halt number) = Unit
 
 up-taken : (l : ℕ) (held : _) → l ≤ 3 → TakenBy Close (stage.Open l held) (turn (stage.Open l holds.Slot) Close)
 unfolding turn
@@ -91,27 +92,27 @@ up-taken l held r =
 taken : (st : Stage) (s : Step) → InRange st → TakenBy s st (turn st s)
 unfolding turn
 taken stage.Start Open r = record { range = omega arith; levels = refl; small = tt }
-taken stage.Start (Slot time t p h) r = omega arith
-taken stage.Start Close r = omega arith
-taken stage.Start Stray r = omega arith
-taken (stage.Open zero holds.Nothing) Open r = omega arith
+taken stage.Start (Slot time t p h) r = tt
+taken stage.Start Close r = tt
+taken stage.Start Stray r = tt
+taken (stage.Open zero holds.Nothing) Open r = tt
 taken (stage.Open (suc l) holds.Nothing) Open r = record { range = omega arith; levels = omega arith; small = tt }
 taken (stage.Open l holds.Nothing) (Slot time t p h) r =
     pick (TakenBy (Slot time t p h) (stage.Open l holds.Nothing)) (slotFits time t p h)
     (λ e. record { range = r; levels = refl; small = fits-small time t p h e })
-    (λ e. omega arith)
-taken (stage.Open l holds.Nothing) Close r = omega arith
-taken (stage.Open l holds.Nothing) Stray r = omega arith
-taken (stage.Open zero holds.Groups) Open r = omega arith
+    (λ e. tt)
+taken (stage.Open l holds.Nothing) Close r = tt
+taken (stage.Open l holds.Nothing) Stray r = tt
+taken (stage.Open zero holds.Groups) Open r = tt
 taken (stage.Open (suc l) holds.Groups) Open r = record { range = omega arith; levels = omega arith; small = tt }
-taken (stage.Open l holds.Groups) (Slot time t p h) r = omega arith
+taken (stage.Open l holds.Groups) (Slot time t p h) r = tt
 taken (stage.Open l holds.Groups) Close r = up-taken l holds.Groups r
-taken (stage.Open l holds.Groups) Stray r = omega arith
-taken (stage.Open l holds.Slot) Open r = omega arith
-taken (stage.Open l holds.Slot) (Slot time t p h) r = omega arith
+taken (stage.Open l holds.Groups) Stray r = tt
+taken (stage.Open l holds.Slot) Open r = tt
+taken (stage.Open l holds.Slot) (Slot time t p h) r = tt
 taken (stage.Open l holds.Slot) Close r = up-taken l holds.Slot r
-taken (stage.Open l holds.Slot) Stray r = omega arith
-taken stage.Done s r = omega arith
+taken (stage.Open l holds.Slot) Stray r = tt
+taken stage.Done s r = tt
 
 -- ---- all steps
 
@@ -163,21 +164,7 @@ sound-later zero ss h = h
 sound-later (suc k) [] h = tt
 sound-later (suc k) (s ∷ ss) h = sound-later k ss (h .1 .1)
 
-abbrev Told : Checked → Type 0
-Told fine = Unit
-Told (wrong number place) = 0 < number
-
-told-on : (s : Step) (st : Stage) (i : ℕ) (t : Turn) (k : Stage → Checked) → TakenBy s st t → ((next : Stage) → InRange next → Told (k next)) → Told (goOn t i k)
-told-on s st i (Onward next) k h rest = rest next (h .range)
-told-on s st i (Halt number) k h rest = h
-
-told-from : (ss : List Step) (st : Stage) (i : ℕ) → InRange st → Told (checked st ss i)
-unfolding checked
-told-from [] stage.Start i r = omega arith
-told-from [] (stage.Open l held) i r = omega arith
-told-from [] stage.Done i r = tt
-told-from (s ∷ ss) st i r =
-    told-on s st i (turn st s) (λ next. checked next ss (i + 1)) (taken st s r) (λ next. told-from ss next (i + 1))
-
 pub not-zero : (ss : List Step) (number place : ℕ) → wrong number place ≡ checked stage.Start ss 0 → 0 < number
-not-zero ss number place e = subst Told (sym e) (told-from ss stage.Start 0 tt)
+not-zero ss number place e =
+    let h : CheckedFault (wrong number place) = subst CheckedFault (sym e) (checked-fault stage.Start ss 0) in
+    omega (arith, h .0)
