@@ -6,7 +6,7 @@ use mathlib.Core.Path.{_≡_, refl, sym, _∙_}
 use native.Mathlib.Omega.{arith}
 use borrow.Author.Tests.{lt-ltb, le-ltb, le-leb, lt-leb, leb-true, leb-false, eq-eqb, ne-eqb}
 use lib.Dec.{leb}
-use lib.ListN.{length, getD}
+use lib.ListN.{getD}
 use Rattle.laws.specs.Tests.{both}
 use Rattle.visit.specs.declared.Place.{Place}
 use Rattle.visit.specs.declared.Kind.{Kind}
@@ -16,7 +16,7 @@ use Rattle.visit.specs.Tree.{tagOf, most}
 use Rattle.visit.specs.Reader.{kindOf}
 use Rattle.paper.specs.Numbers as no
 use Rattle.visit_field.specs.declared.Front.{Front}
-use Rattle.visit_field.specs.declared.Front.the-variants.{Group, Told, Refused}
+use Rattle.visit_field.specs.declared.Front.the-variants.{Told, Refused}
 use Rattle.visit_field.specs.Front.{wordAt, sizeAt, valueAt, pascalsAt, missingAt, byKindAt, wholeAt}
 
 module _ (p : Place) (s : List ℕ) (at n : ℕ) where

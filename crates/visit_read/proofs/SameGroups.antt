@@ -10,7 +10,6 @@ use lib.ListN.{length, length-append}
 use lib.Seq.{slice, slice-empty, length-slice}
 use Rattle.visit.specs.declared.Place.{Place}
 use Rattle.visit.specs.declared.Place.the-variants as place
-use Rattle.visit.specs.declared.Answer.{Answer}
 use Rattle.visit.specs.declared.Step.{Step}
 use Rattle.visit.specs.declared.Step.the-variants.{Open, Close}
 use Rattle.visit.specs.Reader as reader

@@ -1,6 +1,6 @@
 -- What the reader answers, in the paper's terms.
-use Prim.Native.Nat.{ℕ, _<_}
-use mathlib.Core.List.{List, [], _∷_}
+use Prim.Native.Nat.{_<_}
+use mathlib.Core.List.{[], _∷_}
 use Rattle.visit.specs.Lent.{numberAt}
 use Rattle.paper.specs.Answers.{Answer, given, refused}
 use Rattle.visit_read.specs.declared.Read.{Read}

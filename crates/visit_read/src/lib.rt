@@ -16,14 +16,14 @@ pub enum Read {
 }
 
 // A field read whole: a group and how many steps there are so far, or an answer, and where the next field stands.
-pub enum Field {
+pub(crate) enum Field {
     Group { next: usize, filled: usize },
     Told { answer: Answer, next: usize },
     Refused { number: u8, offset: usize },
 }
 
 // How many steps there are so far; or a number and an offset.
-pub enum Filling {
+pub(crate) enum Filling {
     Done { filled: usize },
     Refused { number: u8, offset: usize },
 }

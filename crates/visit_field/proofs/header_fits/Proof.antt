@@ -1,3 +1,4 @@
+-- The sum that the definition tests is tested as a difference, which cannot wrap.
 use native.Mathlib.Omega.{arith}
 use Prim.Native.Nat.{_+_}
 use Rattle.visit_field.proofs.Cases.{same-header}

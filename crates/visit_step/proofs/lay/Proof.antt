@@ -1,3 +1,4 @@
+-- The words are laid where there is room for them, and the list stays where there is none.
 use mathlib.Core.Path.{_∙_, ap}
 use lib.ListN.{length}
 use borrow.Author.Needs.{needs}
@@ -6,17 +7,8 @@ use Rattle.visit.proofs.Lists.{words-length}
 use Rattle.visit_step.proofs.lay.Statement.{statement}
 use Rattle.visit_step.proofs.lay.Tie as tie
 
-words-requires : tie.Need-words-requires
-words-requires c κs = search needs
-
-mul-lay-words : tie.Need-mul-lay-words
-mul-lay-words c = search needs
-
 lay-words-requires : tie.Need-lay-words-requires
 lay-words-requires c κs = (ap length (c .before .words .ensures) ∙ words-length _, search needs)
-
-same-length : tie.Need-same-length
-same-length c = search needs
 
 returns : tie.Need-returns
 returns c =
@@ -29,4 +21,4 @@ returns-2 c = laid-not _ _ _ (c .if1 .left)
 pub lay-spec : {M : Type 1} → statement M
 lay-spec =
     tie.close
-    (tie.spec words-requires mul-lay-words lay-words-requires same-length returns returns-2)
+    (tie.spec (λ c κs. search needs) (λ c. search needs) lay-words-requires (λ c. search needs) returns returns-2)

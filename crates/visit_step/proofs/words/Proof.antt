@@ -1,39 +1,10 @@
+-- Each arm gives the words of that step.
 use mathlib.Core.Path.{refl}
 use Rattle.visit.specs.Words.{words}
 use Rattle.visit_step.proofs.Arms.{at-step}
 use borrow.Author.Needs.{needs}
 use Rattle.visit_step.proofs.words.Statement.{statement}
 use Rattle.visit_step.proofs.words.Tie as tie
-
-enum-told : tie.Need-enum-told
-enum-told c = search needs
-
-enum-known-step : tie.Need-enum-known-step
-enum-known-step c = search needs
-
-number-word-requires : tie.Need-number-word-requires
-number-word-requires c κs = search needs
-
-value-word-requires : tie.Need-value-word-requires
-value-word-requires c κs = search needs
-
-number-word-requires-2 : tie.Need-number-word-requires-2
-number-word-requires-2 c κs = search needs
-
-value-word-requires-2 : tie.Need-value-word-requires-2
-value-word-requires-2 c κs = search needs
-
-number-word-requires-3 : tie.Need-number-word-requires-3
-number-word-requires-3 c κs = search needs
-
-value-word-requires-3 : tie.Need-value-word-requires-3
-value-word-requires-3 c κs = search needs
-
-enum-told-2 : tie.Need-enum-told-2
-enum-told-2 c = search needs
-
-enum-told-3 : tie.Need-enum-told-3
-enum-told-3 c = search needs
 
 returns : tie.Need-returns
 unfolding words
@@ -65,16 +36,16 @@ pub words-spec : {M : Type 1} → statement M
 words-spec =
     tie.close
     (tie.spec
-    enum-told
-    enum-known-step
-    number-word-requires
-    value-word-requires
-    number-word-requires-2
-    value-word-requires-2
-    number-word-requires-3
-    value-word-requires-3
-    enum-told-2
-    enum-told-3
+    (λ c. search needs)
+    (λ c. search needs)
+    (λ c κs. search needs)
+    (λ c κs. search needs)
+    (λ c κs. search needs)
+    (λ c κs. search needs)
+    (λ c κs. search needs)
+    (λ c κs. search needs)
+    (λ c. search needs)
+    (λ c. search needs)
     returns
     returns-2
     returns-3

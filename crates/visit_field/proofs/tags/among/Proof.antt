@@ -1,3 +1,4 @@
+-- Each branch gives what the definition gives for that tag.
 use Rattle.laws.specs.Cases.{cases}
 use Rattle.visit_field.proofs.tags.among.Statement.{statement}
 use Rattle.visit_field.proofs.tags.among.Tie as tie

@@ -1,3 +1,4 @@
+-- Each arm asks for the tags in the order of the definition.
 use mathlib.Core.Path.{_∙_, ap}
 use mathlib.Core.Bool.{cond}
 use lib.Dec.{eqb}
@@ -6,51 +7,6 @@ use Rattle.visit_field.proofs.Cases.{at-place}
 use borrow.Author.Needs.{needs}
 use Rattle.visit_field.proofs.tags.kind_of.Statement.{statement}
 use Rattle.visit_field.proofs.tags.kind_of.Tie as tie
-
-enum-told : tie.Need-enum-told
-enum-told c = search needs
-
-among-requires : tie.Need-among-requires
-among-requires c κs = search needs
-
-enum-told-2 : tie.Need-enum-told-2
-enum-told-2 c = search needs
-
-among-requires-2 : tie.Need-among-requires-2
-among-requires-2 c κs = search needs
-
-among-requires-3 : tie.Need-among-requires-3
-among-requires-3 c κs = search needs
-
-enum-told-3 : tie.Need-enum-told-3
-enum-told-3 c = search needs
-
-among-requires-4 : tie.Need-among-requires-4
-among-requires-4 c κs = search needs
-
-among-requires-5 : tie.Need-among-requires-5
-among-requires-5 c κs = search needs
-
-enum-told-4 : tie.Need-enum-told-4
-enum-told-4 c = search needs
-
-among-requires-6 : tie.Need-among-requires-6
-among-requires-6 c κs = search needs
-
-among-requires-7 : tie.Need-among-requires-7
-among-requires-7 c κs = search needs
-
-among-requires-8 : tie.Need-among-requires-8
-among-requires-8 c κs = search needs
-
-enum-told-5 : tie.Need-enum-told-5
-enum-told-5 c = search needs
-
-among-requires-9 : tie.Need-among-requires-9
-among-requires-9 c κs = search needs
-
-among-requires-10 : tie.Need-among-requires-10
-among-requires-10 c κs = search needs
 
 returns : tie.Need-returns
 returns c = at-place _ _ _ _ (c .before .enum-told .given .1) (c .among .ensures)
@@ -85,21 +41,21 @@ pub kind-of-spec : {M : Type 1} → statement M
 kind-of-spec =
     tie.close
     (tie.spec
-    enum-told
-    among-requires
-    enum-told-2
-    among-requires-2
-    among-requires-3
-    enum-told-3
-    among-requires-4
-    among-requires-5
-    enum-told-4
-    among-requires-6
-    among-requires-7
-    among-requires-8
-    enum-told-5
-    among-requires-9
-    among-requires-10
+    (λ c. search needs)
+    (λ c κs. search needs)
+    (λ c. search needs)
+    (λ c κs. search needs)
+    (λ c κs. search needs)
+    (λ c. search needs)
+    (λ c κs. search needs)
+    (λ c κs. search needs)
+    (λ c. search needs)
+    (λ c κs. search needs)
+    (λ c κs. search needs)
+    (λ c κs. search needs)
+    (λ c. search needs)
+    (λ c κs. search needs)
+    (λ c κs. search needs)
     returns
     returns-2
     returns-3

@@ -9,7 +9,7 @@ use borrow.Fn.PlainCycle.{Measures, is, falls, and}
 use lib.ListN.{length}
 use Rattle.visit_field.proofs.front_at.Reads as front-at-reads
 use Rattle.visit_step.proofs.lay.Reads as lay-reads
-use Rattle.visit_read.specs.Groups.{fieldAt, bodyAt, walkAt, Passes, Ends}
+use Rattle.visit_read.specs.Groups.{fieldAt, walkAt, Passes, Ends}
 use Rattle.visit_read.proofs.SlotCases.{told-moves, group-moves, slot-by-ends}
 use Rattle.visit_read.proofs.GroupCases as group
 use Rattle.visit_read.proofs.slots.slot_by.Reads as slot-by-reads

@@ -1,3 +1,4 @@
+-- Each branch gives what the definition gives for that number.
 use Rattle.laws.specs.Cases.{cases}
 use Rattle.visit_step.proofs.answers.answer_from.Statement.{statement}
 use Rattle.visit_step.proofs.answers.answer_from.Tie as tie

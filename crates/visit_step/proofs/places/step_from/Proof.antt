@@ -1,19 +1,11 @@
+-- Each branch gives what the definition gives for that mark.
 use Rattle.visit_step.proofs.Arms.{step-open, step-slot, step-close, step-stray}
 use borrow.Author.Needs.{needs}
 use Rattle.visit_step.proofs.places.step_from.Statement.{statement}
 use Rattle.visit_step.proofs.places.step_from.Tie as tie
 
-mul-mark : tie.Need-mul-mark
-mul-mark c = search needs
-
-shared-slice-read-mark : tie.Need-shared-slice-read-mark
-shared-slice-read-mark c = search needs
-
 returns : tie.Need-returns
 returns c = let a = c .before .before .before .args in step-open (a .list .now) (a .at) (c .if1 .taken)
-
-slot-from-requires : tie.Need-slot-from-requires
-slot-from-requires c κs = search needs
 
 returns-2 : tie.Need-returns-2
 returns-2 c =
@@ -34,10 +26,10 @@ pub step-from-spec : {M : Type 1} → statement M
 step-from-spec =
     tie.close
     (tie.spec
-    mul-mark
-    shared-slice-read-mark
+    (λ c. search needs)
+    (λ c. search needs)
     returns
-    slot-from-requires
+    (λ c κs. search needs)
     returns-2
     returns-3
     returns-4)
