@@ -9,7 +9,7 @@ use Rattle.bench_numbers.specs.Reading as reading
 use Rattle.bus.specs.declared.Bus.the-variants.{I2c, Spi}
 use Rattle.bus.specs.declared.Device.the-variants.{At, Selected}
 use Rattle.machine.specs.declared.Event.the-variants as events
-use Rattle.bench_command.specs.declared.Asked.the-variants.{Nothing, Refused, Question, Fresh, Event, Ledger}
+use Rattle.bench_command.specs.declared.Asked.the-variants.{Nothing, Refused, Question, VisitWrite, Fresh, Event, Ledger}
 use Rattle.bench_command.specs.declared.Sent.{Sent}
 use Rattle.bench_command.specs.declared.Shown.the-variants.{Comp, Point, Cells, Rooms}
 use Rattle.bench_command.specs.declared.Question.the-variants as the
@@ -58,6 +58,10 @@ pub record Lines : Type 0 where
   pub spi-write : asked (letters "spi write F427 2") (9 ∷ 9 ∷ 9 ∷ 9 ∷ []) ≡ (Question (the.BusWrite Selected 2 2), 0xF4 ∷ 0x27 ∷ 9 ∷ 9 ∷ [])
   pub spi-decode : asked (letters "spi decode 7427 2") (9 ∷ 9 ∷ 9 ∷ 9 ∷ []) ≡ (Question (the.BusDecode Spi 2 2), 0x74 ∷ 0x27 ∷ 9 ∷ 9 ∷ [])
   pub spi-read : asked (letters "spi read F7 256") [] ≡ (Question (the.BusRead Selected 0xF7 256), [])
+  pub visit-read : asked (letters "visit read 010000 9") (9 ∷ 9 ∷ 9 ∷ 9 ∷ []) ≡ (Question (the.VisitRead 3 9), 1 ∷ 0 ∷ 0 ∷ 9 ∷ [])
+  -- its steps are read later, and there may be none
+  pub visit-write : asked (letters "visit write 40 ( x  )") [] ≡ (VisitWrite 40 14, [])
+  pub no-steps : asked (letters "visit write 9") [] ≡ (VisitWrite 9 13, [])
   pub fresh : asked (letters "fresh") [] ≡ (Fresh 0, [])
   pub fresh-after : asked (letters "fresh 4294967295") [] ≡ (Fresh 4294967295, [])
   pub write : asked (letters "write F4 27") [] ≡ (Event (events.Write 0xF4 0x27), [])
@@ -71,6 +75,9 @@ pub record Lines : Type 0 where
   pub shorter-word : asked (letters "fres 7") [] ≡ (Refused UnknownWord, [])
   pub second-missing : asked (letters "wait") [] ≡ (Refused WrongNumberOfWords, [])
   pub second-unknown : asked (letters "wait  max 5 5 5") [] ≡ (Refused UnknownWord, [])
+  pub visit-alone : asked (letters "visit") [] ≡ (Refused WrongNumberOfWords, [])
+  pub no-length : asked (letters "visit write") [] ≡ (Refused WrongNumberOfWords, [])
+  pub visit-unknown : asked (letters "visit x 9 (") [] ≡ (Refused UnknownWord, [])
   pub trailing-space : asked (letters "copied ") [] ≡ (Refused WrongNumberOfWords, [])
   pub one-too-many : asked (letters "fresh 1 2") [] ≡ (Refused WrongNumberOfWords, [])
   pub words-before-values : asked (letters "write G4") [] ≡ (Refused WrongNumberOfWords, [])
@@ -78,10 +85,11 @@ pub record Lines : Type 0 where
   -- the first of several decides, and what was read before it stays laid
   pub first-decides : asked (letters "i2c write 7G 080 257") [] ≡ (Refused NotANumber, [])
   pub odd-digits : asked (letters "spi write F427F 257") (9 ∷ 9 ∷ 9 ∷ []) ≡ (Refused OddHex, 0xF4 ∷ 0x27 ∷ 9 ∷ [])
+  pub length-first : asked (letters "visit write 257 x") [] ≡ (Refused TooLong, [])
   pub long-buffer : asked (letters "spi write F427 257") (9 ∷ 9 ∷ 9 ∷ []) ≡ (Refused TooLong, 0xF4 ∷ 0x27 ∷ 9 ∷ [])
 
 pub lines-read : Lines
-unfolding asked table.tried table.commands table.sent table.isOf table.fits table.askedBy words.count arguments.isArgument arguments.start arguments.stepped arguments.walked
+unfolding asked table.tried table.commands table.sent table.isOf table.isOpen table.fits table.askedBy words.count arguments.isArgument arguments.start arguments.stepped arguments.walked
     word reading.argument reading.number reading.octet reading.pair reading.secondDigit
     reading.decimal reading.readOn reading.bytes reading.wordLaid reading.isDash reading.pairsLaid reading.digitValue reading.letterValue
 lines-read =
@@ -100,6 +108,9 @@ lines-read =
       spi-write = refl;
       spi-decode = refl;
       spi-read = refl;
+      visit-read = refl;
+      visit-write = refl;
+      no-steps = refl;
       fresh = refl;
       fresh-after = refl;
       write = refl;
@@ -112,11 +123,15 @@ lines-read =
       shorter-word = refl;
       second-missing = refl;
       second-unknown = refl;
+      visit-alone = refl;
+      no-length = refl;
+      visit-unknown = refl;
       trailing-space = refl;
       one-too-many = refl;
       words-before-values = refl;
       no-characters = refl;
       first-decides = refl;
       odd-digits = refl;
+      length-first = refl;
       long-buffer = refl;
     }

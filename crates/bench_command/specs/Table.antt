@@ -1,11 +1,12 @@
 -- The commands, one in a row: its words, a capital for each argument, and what it asks by the arguments' numbers.
 -- B stands for bytes, whose number is their length, C for a code, D for a decimal, L for a buffer's length, P for a pair.
-use Prim.Native.Nat.{ℕ, _%_}
+-- S stands at the end of a row for any words, none too, and its number is the place where the words before them end.
+use Prim.Native.Nat.{ℕ, _-_, _%_}
 use Prim.Native.String.{String}
 use mathlib.Core.Bool.{Bool, true, false, cond, _||_}
 use mathlib.Core.List.{List, [], _∷_}
-use lib.Dec.{eqb}
-use lib.ListN.{getD, drop}
+use lib.Dec.{eqb, leb}
+use lib.ListN.{length, getD, drop}
 use Rattle.bench_page.specs.Page.{letters}
 use Rattle.bench_numbers.specs.declared.Reason.the-variants.{UnknownWord, WrongNumberOfWords}
 use Rattle.bus.specs.declared.Bus.the-variants.{I2c, Spi}
@@ -91,6 +92,8 @@ commands =
     ∷ question "spi write B L" (λ n. the.BusWrite Selected (n at 0) (n at 1))
     ∷ question "spi decode B L" (λ n. the.BusDecode Spi (n at 0) (n at 1))
     ∷ question "spi read P L" (λ n. the.BusRead Selected (octet n 0) (n at 1))
+    ∷ question "visit read B L" (λ n. the.VisitRead (n at 0) (n at 1))
+    ∷ row "visit write LS" (λ n. asks.VisitWrite (n at 0) (n at 1))
     ∷ row "comp B B B C C C" (reading Comp)
     ∷ row "point B B B C C C" (reading Point)
     ∷ row "cells B B B C C C" (reading Cells)
@@ -114,9 +117,13 @@ unfoldable pub fits : List ℕ → List ℕ → Bool
 fits [] line = ended line
 fits (character ∷ row) line = cond (isArgument character) true (along character line (fits row))
 
--- and it has as many words
+-- any words may follow those of a row that ends in an S
+unfoldable pub isOpen : List ℕ → Bool
+isOpen row = cond (eqb (length row) 0) false (eqb (getD row (length row - 1) 0) 83)
+
+-- and it has as many words, or more where the row is open
 unfoldable pub isOf : List ℕ → List ℕ → ℕ → Bool
-isOf row line words = cond (fits row line) (eqb (count row) words) false
+isOf row line words = cond (fits row line) (cond (isOpen row) (leb (count row) words) (eqb (count row) words)) false
 
 -- ---- the row that a line is of
 

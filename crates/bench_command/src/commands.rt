@@ -77,6 +77,9 @@ fn command(row: usize, n: [usize; 16]) -> Asked
     if row == 10 {
         return Asked::Ledger;
     }
+    if row == 22 {
+        return Asked::VisitWrite(n[0], n[1]);
+    }
     Asked::Question(question(row, n))
 }
 
@@ -109,7 +112,7 @@ fn later_event(row: usize, n: [usize; 16]) -> Event
 
 // The question of a row.
 fn question(row: usize, n: [usize; 16]) -> Question
-    requires { ⌜ 10 < row ⌝ }
+    requires { ⌜ (10 < row) × (row ≡ 22 → ⊥) ⌝ }
     ensures { λ r. ⌜ Asked.Question r ≡ table.makeAt row n ⌝ }
 {
     if row == 11 {
@@ -126,6 +129,9 @@ fn question(row: usize, n: [usize; 16]) -> Question
     }
     if row < 21 {
         return bus_question(row, n);
+    }
+    if row == 21 {
+        return Question::VisitRead(n[0], n[1]);
     }
     Question::Reading(shown(row), sent(n))
 }
@@ -155,13 +161,13 @@ fn bus_question(row: usize, n: [usize; 16]) -> Question
 
 // What a row shows of a reading.
 fn shown(row: usize) -> Shown
-    requires { ⌜ 20 < row ⌝ }
+    requires { ⌜ 22 < row ⌝ }
     ensures { λ r. ⌜ table.makeAt row ≡ table.reading r ⌝ }
 {
     match row {
-        21 => Shown::Comp,
-        22 => Shown::Point,
-        23 => Shown::Cells,
+        23 => Shown::Comp,
+        24 => Shown::Point,
+        25 => Shown::Cells,
         _ => Shown::Rooms,
     }
 }

@@ -57,13 +57,17 @@ pub enum Question {
     BusDecode(Bus, usize, usize),
     // The device, the register, and the length of the lent buffer.
     BusRead(Device, u8, usize),
+    // The length of the record, and how many steps the lent list has.
+    VisitRead(usize, usize),
 }
 
-// What a line asks: nothing where it is empty, nothing that can be answered, a question, or something of the machine.
+// What a line asks: nothing where it is empty, nothing that can be answered, a question, a visit written, or something of the machine.
 pub enum Asked {
     Nothing,
     Refused(Reason),
     Question(Question),
+    // The length of the lent buffer, and the place in the line after which its other words are the steps. None of them is read yet.
+    VisitWrite(usize, usize),
     // The number of conversions that came before.
     Fresh(u32),
     Event(Event),
@@ -84,7 +88,7 @@ pub fn read(line: &[u8], lent: &mut [u8]) -> Asked
     if line.len() == 0 {
         return Asked::Nothing;
     }
-    // The commands, in the order of their numbers: B stands for bytes, C for a code, D for a decimal, L for a buffer's length, P for a pair.
+    // The commands, in the order of their numbers: B stands for bytes, C for a code, D for a decimal, L for a buffer's length, P for a pair, and S at the end for any words.
     table::find(
         b"fresh;\
         fresh D;\
@@ -107,6 +111,8 @@ pub fn read(line: &[u8], lent: &mut [u8]) -> Asked
         spi write B L;\
         spi decode B L;\
         spi read P L;\
+        visit read B L;\
+        visit write LS;\
         comp B B B C C C;\
         point B B B C C C;\
         cells B B B C C C;\

@@ -37,12 +37,25 @@ pub fn fits(row: &[u8], line: &[u8]) -> bool
     line[i] == b' '
 }
 
-// Whether a line of so many words is of a row: its first words are the row's, and it has as many words.
+// Whether any words may follow those of a row: it ends in an S.
+fn is_open(row: &[u8]) -> bool
+    ensures { λ r. ⌜ r ≡ table.isOpen (now (row .entry)) ⌝ }
+{
+    if row.len() == 0 {
+        return false;
+    }
+    row[row.len() - 1] == b'S'
+}
+
+// Whether a line of so many words is of a row: its first words are the row's, and it has as many words, or more where the row is open.
 pub fn is_of(row: &[u8], line: &[u8], words: usize) -> bool
     ensures { λ r. ⌜ r ≡ table.isOf (now (row .entry)) (now (line .entry)) words ⌝ }
 {
     if !fits(row, line) {
         return false;
+    }
+    if is_open(row) {
+        return text::count(row) <= words;
     }
     text::count(row) == words
 }

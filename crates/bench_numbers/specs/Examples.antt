@@ -1,5 +1,5 @@
 -- Arguments read, by the definitions: the number, where the word ends, and the next place among the bytes.
--- The kinds are 66 for bytes, 67 a code, 68 a decimal, 76 a buffer's length, 80 a pair.
+-- The kinds are 66 for bytes, 67 a code, 68 a decimal, 76 a buffer's length, 80 a pair, 83 the rest of the line.
 use mathlib.Core.List.{[], _∷_}
 use mathlib.Core.Path.{_≡_, refl}
 use Rattle.bench_numbers.specs.declared.Argument.the-variants.{Read, Refused}
@@ -25,6 +25,7 @@ pub record Words : Type 0 where
   -- what was read before a word is refused stays laid
   pub odd : argument 66 (letters "F42") 0 (0 ∷ 0 ∷ []) 0 ≡ (Refused OddHex, 0xF4 ∷ 0 ∷ [])
   pub no-digit-and-odd : argument 66 (letters "F42GG") 0 (0 ∷ 0 ∷ []) 0 ≡ (Refused NotANumber, 0xF4 ∷ 0 ∷ [])
+  pub rest-of-line : argument 83 (letters "9 ( )") 1 [] 0 ≡ (Read 1 1 0, [])
   pub no-room : argument 66 (letters "F427") 0 (7 ∷ []) 0 ≡ (Refused TooLong, 0xF4 ∷ [])
 
 pub words-read : Words
@@ -45,5 +46,6 @@ words-read =
       dash = refl;
       odd = refl;
       no-digit-and-odd = refl;
+      rest-of-line = refl;
       no-room = refl;
     }

@@ -90,7 +90,7 @@ wordLaid text at lent place =
 unfoldable pub bytes : List ℕ → ℕ → List ℕ → ℕ → Argument × List ℕ
 bytes line at lent place = wordLaid (word (drop at line)) at lent place
 
--- ---- arguments, by their kinds: B bytes, P a pair, C a code, D a decimal, L a buffer's length
+-- ---- arguments, by their kinds: B bytes, P a pair, C a code, D a decimal, L a buffer's length, S the rest of the line
 
 abbrev pub largestCode : ℕ
 largestCode = 255
@@ -114,6 +114,18 @@ abbrev pub beside : Number → ℕ → Argument
 beside (numbers.Refused reason) place = the.Refused reason
 beside (numbers.Value n end) place = the.Read n end place
 
+-- the number of the rest of a line is the place where it begins
 unfoldable pub argument : ℕ → List ℕ → ℕ → List ℕ → ℕ → Argument × List ℕ
 argument kind line at lent place =
-    cond (eqb kind 66) (bytes line at lent place) (beside (number kind (word (drop at line)) at) place, lent)
+    cond (eqb kind 66) (bytes line at lent place)
+    (cond (eqb kind 83) (the.Read at at place, lent)
+    (beside (number kind (word (drop at line)) at) place, lent))
+
+-- ---- a text that is a decimal; one more than the largest where it is none
+
+abbrev pub valueOf : Number → ℕ
+valueOf (numbers.Refused reason) = 4294967296
+valueOf (numbers.Value n end) = n
+
+unfoldable pub numberOf : List ℕ → ℕ
+numberOf text = valueOf (decimal (word text) 0)

@@ -66,7 +66,7 @@ fn code(n: usize) -> usize
 
 // The number that a word of decimal digits stands for.
 // A word of none, a character that is no digit, and a number above the largest are refused.
-fn read_decimal(line: &[u8], from: usize) -> Number
+pub fn read_decimal(line: &[u8], from: usize) -> Number
     ensures { λ r. ⌜ r ≡ reading.decimal (word (drop from (now (line .entry)))) from ⌝ }
 {
     if words::ends(line, from) {
@@ -114,5 +114,15 @@ pub fn beside(number: Number, place: usize) -> Argument
             end,
             place,
         },
+    }
+}
+
+// A number by itself, and one more than the largest for none.
+pub fn value(number: Number) -> usize
+    ensures { λ r. ⌜ r ≡ reading.valueOf number ⌝ }
+{
+    match number {
+        Number::Refused(_) => LARGEST + 1,
+        Number::Value(n, _) => n,
     }
 }

@@ -16,6 +16,10 @@ returns-4 : tie.Need-returns-4
 unfolding commands makeAt
 returns-4 c = rw (c .if4 .taken)
 
+returns-5 : tie.Need-returns-5
+unfolding commands makeAt
+returns-5 c = rw (c .if5 .taken)
+
 pub command-spec : {M : Type 1} → statement M
 command-spec =
     tie.close
@@ -27,5 +31,8 @@ command-spec =
     (λ c κs. search needs)
     (λ c. search needs)
     returns-4
+    (λ c. search needs)
+    (λ c. search needs)
+    returns-5
     (λ c κs. search needs)
     (λ c. search needs))

@@ -21,7 +21,11 @@ unfolding commands makeAt
 returns-4 c = rw (c .if4 .taken)
 
 returns-6 : tie.Need-returns-6
-returns-6 c = rw (c .before .shown .ensures, c .sent .ensures)
+unfolding commands makeAt
+returns-6 c = rw (c .if6 .taken)
+
+returns-7 : tie.Need-returns-7
+returns-7 c = rw (c .before .shown .ensures, c .sent .ensures)
 
 pub question-spec : {M : Type 1} → statement M
 question-spec =
@@ -49,6 +53,9 @@ question-spec =
     returns-4
     (λ c κs. search needs)
     (λ c. search needs)
+    (λ c. search needs)
+    (λ c. search needs)
+    returns-6
     (λ c κs. search needs)
     (λ c κs. search needs)
-    returns-6)
+    returns-7)

@@ -1,0 +1,2 @@
+-- What the proofs cite of a text's parts.
+pub mod Fronts
