@@ -73,7 +73,7 @@ uint32_t onegrish_version(void);
 #define ONEGRISH_POINT 3        /* doubles of a map point, its flags and its numbers: temperature, pressure, humidity */
 #define ONEGRISH_VERDICTS 3     /* verdicts on two rooms: temperature, pressure, humidity */
 #define ONEGRISH_STEP_WORDS 8   /* words of a step */
-#define ONEGRISH_MOST_STEPS 14799   /* steps of the record that has the most: a list of so many holds any */
+#define ONEGRISH_MOST_STEPS 14799   /* no record has more steps: a list of so many holds any */
 #define ONEGRISH_MOST_RECORD 65535  /* bytes of the longest record */
 #define ONEGRISH_MOST_PAIRS 16  /* pairs of register and value in one message */
 #define ONEGRISH_LONGEST 33     /* bytes of the longest message: the address and 16 pairs on I2C */

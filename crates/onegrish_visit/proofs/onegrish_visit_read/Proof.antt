@@ -8,7 +8,7 @@ returns : tie.Need-returns
 returns c =
     let valued = c .before .before in
     rw (
-      ← valued .before .before .before .before .read-record .ensures,
+      ← valued .before .before .before .before .read-record .ensures .0,
       ← valued .before .read-number .ensures,
       ← valued .read-value .ensures,
     )

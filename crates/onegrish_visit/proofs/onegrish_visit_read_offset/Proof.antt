@@ -13,7 +13,7 @@ unfolding offsetOf
 returns c =
     let valued = c .before in
     rw (
-      ← ap (λ (o : Answer × List ℕ). o .0) (valued .before .before .before .read-record .ensures),
+      ← ap (λ (o : Answer × List ℕ). o .0) (valued .before .before .before .read-record .ensures .0),
       ← valued .before .read-number .ensures,
       ← valued .read-value .ensures,
     )
