@@ -204,14 +204,15 @@ uint8_t onegrish_compare_rooms(const uint8_t *here_one, size_t here_one_length,
 
 /* ---- visit records: in libonegrish_visit.a
  *
- * A visit is a list of steps, of ONEGRISH_STEP_WORDS words each. In a lent list of so many words stand a whole number of
- * steps: words past the last whole step are never looked at or changed.
+ * A visit is a list of steps: a group begins, a slot with one reading, a group ends. A group holds one slot, or one or more
+ * groups, and they go at most four levels deep. A step is ONEGRISH_STEP_WORDS words:
  *   step[0]  ONEGRISH_STEP_OPEN, ONEGRISH_STEP_SLOT or ONEGRISH_STEP_CLOSE      step[1]  a slot's time
  *   step[2]  ONEGRISH_DONE where its temperature has a value, and else what stands in its place (ONEGRISH_SKIPPED to
  *            ONEGRISH_PRESSURE_OUTSIDE)
  *   step[3]  the temperature in hundredths of a degree Celsius, read as (int32_t)step[ONEGRISH_STEP_VALUE_T]
  *   step[4], step[5]  the same of its pressure in Pa times 256         step[6], step[7]  of its humidity in %RH times 1024
- * Of a record's groups, each holds one slot, or one or more groups; they go at most four levels deep. */
+ * A list is lent with the number of its words. It holds as many steps as there are whole ones in it, and words past the last
+ * of them are never looked at or changed. */
 
 /* The visit that a record holds, at the front of steps, and in count how many steps it has. Words that a step has no use
  * for are 0: those past the kind where a group begins or ends, and the value of a missing channel.
@@ -228,8 +229,8 @@ uint8_t onegrish_visit_read(const uint8_t *record, size_t record_length,
                             uint32_t *steps, size_t steps_words, size_t *count);
 
 /* The offset of the field, or of the first byte left, for which onegrish_visit_read answers ONEGRISH_CUT_SHORT to
- * ONEGRISH_VALUE_OUTSIDE, whatever list it is lent; 0 too where it answers another number. Ask it after such an answer: it
- * reads the record again. */
+ * ONEGRISH_VALUE_OUTSIDE, whatever list it is lent; 0 where it answers another number. Ask it after such an answer: it goes
+ * through the record once more. */
 size_t onegrish_visit_read_offset(const uint8_t *record, size_t record_length);
 
 /* The record of a visit, at the front of lent, and in count how many bytes it has. Every whole step of the list is the
@@ -247,7 +248,7 @@ uint8_t onegrish_visit_write(const uint32_t *steps, size_t steps_words,
 
 /* The place in the list, counted in steps from 0, of the step for which onegrish_visit_write answers
  * ONEGRISH_TAG_OUT_OF_PLACE, ONEGRISH_TOO_DEEP or ONEGRISH_VALUE_OUTSIDE, whatever buffer it is lent; the list's number of
- * steps where it ends too soon; 0 too where it answers another number. */
+ * steps where it ends too soon; 0 where it answers another number. */
 size_t onegrish_visit_write_place(const uint32_t *steps, size_t steps_words);
 
 /* ---- waiting */
