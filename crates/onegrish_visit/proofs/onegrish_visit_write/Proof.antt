@@ -8,7 +8,7 @@ returns : tie.Need-returns
 returns c =
     let valued = c .before .before in
     rw (
-      ← valued .before .before .before .before .write .ensures,
+      ← valued .before .before .before .before .write .ensures .0,
       ← valued .before .written-number .ensures,
       ← valued .written-value .ensures,
     )

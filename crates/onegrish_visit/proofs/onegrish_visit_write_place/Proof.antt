@@ -13,7 +13,7 @@ unfolding placeOf
 returns c =
     let valued = c .before in
     rw (
-      ← ap (λ (o : Answer × List ℕ). o .0) (valued .before .before .before .write .ensures),
+      ← ap (λ (o : Answer × List ℕ). o .0) (valued .before .before .before .write .ensures .0),
       ← valued .before .written-number .ensures,
       ← valued .written-value .ensures,
     )
