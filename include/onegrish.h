@@ -2,8 +2,8 @@
  *
  * The library is proved: each function below does what its comment says, for all input that fits the types. It is built
  * for x86-64 Linux alone. Link libonegrish.a (`rt staticlib onegrish`), for the two functions over kept words
- * libonegrish_words.a (`rt staticlib onegrish_words`), and for the three on map points and rooms libonegrish_rooms.a
- * (`rt staticlib onegrish_rooms`).
+ * libonegrish_words.a (`rt staticlib onegrish_words`), for the three on map points and rooms libonegrish_rooms.a
+ * (`rt staticlib onegrish_rooms`), and for the four on visit records libonegrish_visit.a (`rt staticlib onegrish_visit`).
  *
  * Every function ends, allocates nothing, keeps no state and calls nothing. Any number of threads may call it.
  *
@@ -11,9 +11,10 @@
  * written through it. Any other pointer must be valid for as many elements as its number says, and what a function
  * writes must not overlap anything else that it is lent. A pointer with no number beside it must be valid for one element.
  *
- * Each function but onegrish_version, onegrish_polls and onegrish_compare answers one of the numbers below. Nothing is
- * written unless it answers ONEGRISH_DONE, and elements past the output stay as they were. Where several numbers would
- * fit, the first in the order that the function's comment gives is answered.
+ * Each function but onegrish_version, onegrish_polls, onegrish_compare, onegrish_visit_read_offset and
+ * onegrish_visit_write_place answers one of the numbers below. Nothing is written unless it answers ONEGRISH_DONE, and
+ * elements past the output stay as they were. Where several numbers would fit, the first in the order that the function's
+ * comment gives is answered.
  */
 #ifndef ONEGRISH_H
 #define ONEGRISH_H
@@ -34,15 +35,20 @@ uint32_t onegrish_version(void);
 /* ---- the numbers that are answered */
 
 #define ONEGRISH_DONE 0                 /* done */
-#define ONEGRISH_WRONG_LENGTH 2         /* not 26 and 7 calibration bytes, 8 data bytes or 18 words */
+#define ONEGRISH_WRONG_LENGTH 2         /* not 26 and 7 calibration bytes, 8 data bytes or 18 words; a record over 65,535 bytes */
 #define ONEGRISH_ADDRESS_NOT_ALLOWED 4  /* a device's address or a register */
 #define ONEGRISH_OUT_OF_RANGE 7         /* an oversampling code above 7, or a kept word that its type can't hold */
 #define ONEGRISH_BUFFER_TOO_SHORT 9     /* fewer elements lent than the output has */
 #define ONEGRISH_PAIRS_OUTSIDE 15       /* no pair, an odd number of bytes, or more than 16 pairs */
 #define ONEGRISH_WRONG_SHAPE 16         /* bus bytes of the wrong shape */
 #define ONEGRISH_NEVER_READY 17         /* never ready within the polls allowed */
+#define ONEGRISH_CUT_SHORT 18           /* a record's field runs past its group or the record, or there is none */
+#define ONEGRISH_TAG_OUT_OF_PLACE 19    /* a tag, or a step, that no record has there; bytes left after a slot or the record */
+#define ONEGRISH_WRONG_FIELD_LENGTH 20  /* a field whose length is not its tag's */
+#define ONEGRISH_TOO_DEEP 21            /* a group on the fifth level */
+#define ONEGRISH_VALUE_OUTSIDE 22       /* a value outside its limits, or a missing answer that is none */
 
-/* ---- the numbers that stand in a channel's place, in `numbers`; no function answers them */
+/* ---- the numbers that stand in a channel's place, in `numbers` and in a visit's steps; no function answers them */
 
 #define ONEGRISH_SKIPPED 10             /* the channel's code is 0 */
 #define ONEGRISH_NO_TEMPERATURE 11      /* there is no temperature to compensate with */
@@ -66,13 +72,22 @@ uint32_t onegrish_version(void);
 #define ONEGRISH_VALUES 4       /* values of a reading: temperature, fine temperature, pressure, humidity */
 #define ONEGRISH_POINT 3        /* doubles of a map point, its flags and its numbers: temperature, pressure, humidity */
 #define ONEGRISH_VERDICTS 3     /* verdicts on two rooms: temperature, pressure, humidity */
+#define ONEGRISH_STEP_WORDS 8   /* words of a step */
+#define ONEGRISH_MOST_STEPS 14799   /* no record has more steps: a list of so many holds any */
+#define ONEGRISH_MOST_RECORD 65535  /* bytes of the longest record */
 #define ONEGRISH_MOST_PAIRS 16  /* pairs of register and value in one message */
 #define ONEGRISH_LONGEST 33     /* bytes of the longest message: the address and 16 pairs on I2C */
 #define ONEGRISH_I2C_READ 3     /* bytes of both messages of an I2C read; the first is ONEGRISH_I2C_READ_FIRST long */
 #define ONEGRISH_I2C_READ_FIRST 2
 #define ONEGRISH_SPI_READ 1     /* bytes of an SPI read */
 
-/* ---- places in words, numbers and values, in a point's three arrays and in verdicts */
+/* ---- the steps of a visit: a group begins, its slot, the group ends */
+
+#define ONEGRISH_STEP_OPEN 1
+#define ONEGRISH_STEP_SLOT 2
+#define ONEGRISH_STEP_CLOSE 3
+
+/* ---- places in words, numbers and values, in a point's three arrays, in verdicts and in a step's words */
 
 enum {
     ONEGRISH_T1, ONEGRISH_T2, ONEGRISH_T3,
@@ -83,6 +98,10 @@ enum { ONEGRISH_NUMBER_T, ONEGRISH_NUMBER_P, ONEGRISH_NUMBER_H };
 enum { ONEGRISH_VALUE_T, ONEGRISH_VALUE_FINE, ONEGRISH_VALUE_P, ONEGRISH_VALUE_H };
 enum { ONEGRISH_POINT_T, ONEGRISH_POINT_P, ONEGRISH_POINT_H };
 enum { ONEGRISH_VERDICT_T, ONEGRISH_VERDICT_P, ONEGRISH_VERDICT_H };
+enum {
+    ONEGRISH_STEP_KIND, ONEGRISH_STEP_TIME, ONEGRISH_STEP_NUMBER_T, ONEGRISH_STEP_VALUE_T,
+    ONEGRISH_STEP_NUMBER_P, ONEGRISH_STEP_VALUE_P, ONEGRISH_STEP_NUMBER_H, ONEGRISH_STEP_VALUE_H
+};
 
 /* ---- addresses and codes of the device */
 
@@ -182,6 +201,55 @@ uint8_t onegrish_compare_rooms(const uint8_t *here_one, size_t here_one_length,
                                uint8_t there_t, uint8_t there_p, uint8_t there_h,
                                uint32_t temperature, uint32_t pressure, uint32_t humidity,
                                uint8_t *verdicts, size_t verdicts_length);
+
+/* ---- visit records: in libonegrish_visit.a
+ *
+ * A visit is a list of steps: a group begins, a slot with one reading, a group ends. A group holds one slot, or one or more
+ * groups, and they go at most four levels deep. A step is ONEGRISH_STEP_WORDS words:
+ *   step[0]  ONEGRISH_STEP_OPEN, ONEGRISH_STEP_SLOT or ONEGRISH_STEP_CLOSE      step[1]  a slot's time
+ *   step[2]  ONEGRISH_DONE where its temperature has a value, and else what stands in its place (ONEGRISH_SKIPPED to
+ *            ONEGRISH_PRESSURE_OUTSIDE)
+ *   step[3]  the temperature in hundredths of a degree Celsius, read as (int32_t)step[ONEGRISH_STEP_VALUE_T]
+ *   step[4], step[5]  the same of its pressure in Pa times 256         step[6], step[7]  of its humidity in %RH times 1024
+ * A list is lent with the number of its words. It holds as many steps as there are whole ones in it, and words past the last
+ * of them are never looked at or changed. */
+
+/* The visit that a record holds, at the front of steps, and in count how many steps it has. Words that a step has no use
+ * for are 0: those past the kind where a group begins or ends, and the value of a missing channel.
+ *
+ * ONEGRISH_WRONG_LENGTH: more than 65,535 bytes.  Then at each field, from the first on:
+ * ONEGRISH_CUT_SHORT: its header or body runs past its group or the record, or the group or the record is empty.
+ * ONEGRISH_TAG_OUT_OF_PLACE: its tag has no place there; after a slot and after the record any byte has none, and this
+ * comes before all else.  ONEGRISH_WRONG_FIELD_LENGTH: not the length that its tag has.
+ * ONEGRISH_TOO_DEEP: a group on the fifth level.  ONEGRISH_VALUE_OUTSIDE: humidity above 102,400, whole pascals above
+ * 16,777,215, or a missing answer of another channel or with a number other than 10 to 14.
+ * ONEGRISH_BUFFER_TOO_SHORT: fewer steps are lent than the visit has; ONEGRISH_MOST_STEPS are always enough.
+ * ONEGRISH_DONE. */
+uint8_t onegrish_visit_read(const uint8_t *record, size_t record_length,
+                            uint32_t *steps, size_t steps_words, size_t *count);
+
+/* The offset of the field, or of the first byte left, for which onegrish_visit_read answers ONEGRISH_CUT_SHORT to
+ * ONEGRISH_VALUE_OUTSIDE, whatever list it is lent; 0 where it answers another number. Ask it after such an answer: it goes
+ * through the record once more. */
+size_t onegrish_visit_read_offset(const uint8_t *record, size_t record_length);
+
+/* The record of a visit, at the front of lent, and in count how many bytes it has. Every whole step of the list is the
+ * visit's: of a list that was read into, lend count * ONEGRISH_STEP_WORDS words. Words that a step has no use for are not
+ * looked at. What is written is read as the same visit. What was read is written as the same bytes, but that a pressure in
+ * whole pascals becomes one in Pa times 256.
+ *
+ * At each step, from the first on: ONEGRISH_TAG_OUT_OF_PLACE: no record has that step there, any other kind included.
+ * ONEGRISH_TOO_DEEP: a group on the fifth level.  ONEGRISH_VALUE_OUTSIDE: a humidity above 102,400, or a channel's number
+ * other than ONEGRISH_DONE and 10 to 14.  Then ONEGRISH_TAG_OUT_OF_PLACE: the list ends before the record does.
+ * ONEGRISH_WRONG_LENGTH: more than 65,535 bytes.  ONEGRISH_BUFFER_TOO_SHORT: fewer bytes are lent than the record has.
+ * ONEGRISH_DONE. */
+uint8_t onegrish_visit_write(const uint32_t *steps, size_t steps_words,
+                             uint8_t *lent, size_t lent_length, size_t *count);
+
+/* The place in the list, counted in steps from 0, of the step for which onegrish_visit_write answers
+ * ONEGRISH_TAG_OUT_OF_PLACE, ONEGRISH_TOO_DEEP or ONEGRISH_VALUE_OUTSIDE, whatever buffer it is lent; the list's number of
+ * steps where it ends too soon; 0 where it answers another number. */
+size_t onegrish_visit_write_place(const uint32_t *steps, size_t steps_words);
 
 /* ---- waiting */
 

@@ -1,0 +1,2 @@
+-- What the library for visit records hands to C.
+pub mod Handed
