@@ -1,7 +1,7 @@
 -- The cases of the writer's answer, in the order of its numbers.
 use Prim.Native.Nat.{ℕ, _≤_, _<_, min}
 use mathlib.Core.List.{List, [], _∷_, _++_}
-use mathlib.Core.Path.{_≡_, refl, sym, ap, _∙_}
+use mathlib.Core.Path.{_≡_, ap, _∙_}
 use native.Mathlib.Omega.{arith}
 use borrow.Author.Tests.{lt-ltb, le-ltb}
 use lib.ListN.{length, drop}
@@ -12,7 +12,7 @@ use Rattle.visit.specs.declared.Step.{Step}
 use Rattle.visit.specs.Tags as tag
 use Rattle.visit.specs.Words.{fromWords}
 use Rattle.visit.specs.Writer.{Checked, fine, wrong, checked, bytesOf}
-use Rattle.visit.specs.Lent.{numberAt, writeBy, writeSteps, writeInto}
+use Rattle.visit.specs.Lent.{writeBy, writeSteps, writeInto}
 use Rattle.visit_write.specs.Walk.{sizeOf}
 use Rattle.visit_write.proofs.Frames.{bytes-length}
 

@@ -1,6 +1,6 @@
 -- The loop that counts bytes: what is counted and what is left to count are all of them.
 use Prim.Native.Nat.{ℕ, _+_, _/_, _≤_, _<_, min}
-use mathlib.Core.List.{List, []}
+use mathlib.Core.List.{List}
 use mathlib.Core.Path.{_≡_, refl, ap, _∙_}
 use native.Mathlib.Omega.{arith}
 use lib.ListN.{length, drop, drop-of-length-le}

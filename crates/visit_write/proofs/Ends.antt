@@ -1,7 +1,7 @@
 -- Where the groups end that are still to be opened: the marks say it at every place of the walk back.
 use Prim.Native.Nat.{ℕ, zero, suc, _+_, _-_, _≤_}
 use mathlib.Core.List.{List, [], _∷_, _++_}
-use mathlib.Core.Path.{_≡_, refl, ap, _∙_}
+use mathlib.Core.Path.{_≡_, refl, ap}
 use native.Mathlib.Omega.{arith}
 use lib.ListN.{length, length-append}
 use Rattle.visit.specs.declared.Step.{Step}
@@ -12,7 +12,7 @@ use Rattle.visit_bytes.specs.Bytes.{size}
 use Rattle.visit_bytes.specs.Laid.{laidBack}
 use Rattle.visit_write.specs.declared.Marks.{Marks}
 use Rattle.visit_write.specs.Walk.{sizeOf, moved, stepBack}
-use Rattle.visit_write.proofs.Frames.{joined, unrolled, unrolled-length, slot-length}
+use Rattle.visit_write.proofs.Frames.{joined, unrolled-length, slot-length}
 
 -- the length of so many groups together
 abbrev pub lengths : ℕ → List (List ℕ) → ℕ

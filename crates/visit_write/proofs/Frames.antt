@@ -4,7 +4,7 @@ use mathlib.Core.List.{List, [], _∷_, _++_, append-assoc, append-nil}
 use mathlib.Core.Path.{_≡_, refl, sym, ap, _∙_}
 use native.Mathlib.Nat.{mod-eq-of-lt}
 use native.Mathlib.Omega.{arith}
-use lib.ListN.{length, drop, length-append}
+use lib.ListN.{length, length-append}
 use Rattle.visit.specs.declared.Answer.{Answer}
 use Rattle.visit.specs.declared.Answer.the-variants.{Value, Missing}
 use Rattle.visit.specs.declared.Place.{Place}
@@ -16,6 +16,7 @@ use Rattle.visit.specs.Tree.{tagOf}
 use Rattle.visit.specs.Writer.{Frames, stepBytes, framedOnto, frames, bytesOf, checked, fine}
 use Rattle.visit.specs.Writer.{answerBytes as writtenBytes}
 use Rattle.visit_bytes.specs.Bytes.{answerBytes, slotBytes, headerBytes, lead, answerSize, size}
+use Rattle.visit_bytes.proofs.Over.{answer-length}
 use Rattle.visit_write.specs.Walk.{sizeOf}
 use Rattle.visit_write.proofs.Sound.{InByte, Small, none-outer}
 
@@ -93,10 +94,6 @@ lead-first (Slot time t p h) ss m l =
     ∙ ap (λ (bytes : List ℕ). bytes ++ unrolled (frames ss)) (slot-same time t p h m)
 lead-first Close ss m h = refl
 lead-first Stray ss m h = refl
-
-answer-length : (tagged : ℕ) (a : Answer) → length (answerBytes tagged a) ≡ answerSize a
-answer-length tagged (Value v) = refl
-answer-length tagged (Missing n) = refl
 
 pub lead-length : (s : Step) (held : ℕ) → length (lead s held) ≡ size s
 unfolding lead slotBytes

@@ -1,5 +1,5 @@
 -- What the writer answers, in the paper's terms, and what its checks find.
-use Prim.Native.Nat.{ℕ, _<_}
+use Prim.Native.Nat.{_<_}
 use mathlib.Core.List.{[], _∷_}
 use Rattle.paper.specs.Answers.{Answer, given, refused}
 use Rattle.visit.specs.Lent.{numberAt}

@@ -61,7 +61,7 @@ fn step_back(step: Step, total: usize, m: Marks, out: &mut [u8]) -> Marks
     moved(step, total, m, at)
 }
 
-// The record of a list whose steps are checked, in a buffer that has room for it.
+// The record of a list whose steps are checked, at the front of a buffer that has room for it.
 pub(crate) fn fill(steps: &[u32], total: usize, out: &mut [u8])
     requires { ⌜ (checked stage.Start (fromWords (now steps)) 0 ≡ fine) × ((total ≡ length (bytesOf (fromWords (now steps)))) × ((total ≤ tag.mostBytes) × (total ≤ length (now out)))) ⌝ }
     ensures { λ r. ⌜ now (out .exit) ≡ bytesOf (fromWords (now (steps .entry))) ++ drop total (now (out .entry)) ⌝ }

@@ -1,6 +1,6 @@
-use Rattle.visit_bytes.proofs.Over.{over-nothing}
-use Rattle.visit_bytes.specs.Bytes.{lead}
 use borrow.Author.Needs.{needs}
+use Rattle.visit_bytes.specs.Bytes.{lead}
+use Rattle.visit_bytes.proofs.Over.{over-nothing}
 use Rattle.visit_bytes.proofs.lay.Statement.{statement}
 use Rattle.visit_bytes.proofs.lay.Tie as tie
 

@@ -1,5 +1,5 @@
-use Rattle.visit_bytes.proofs.Back.{past-the-buffer, before-the-buffer, with-room}
 use borrow.Author.Needs.{needs}
+use Rattle.visit_bytes.proofs.Back.{past-the-buffer, before-the-buffer, with-room}
 use Rattle.visit_bytes.proofs.lay_back.Statement.{statement}
 use Rattle.visit_bytes.proofs.lay_back.Tie as tie
 

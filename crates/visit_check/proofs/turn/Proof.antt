@@ -1,5 +1,5 @@
-use Rattle.visit.specs.Writer as writer
 use borrow.Author.Needs.{needs}
+use Rattle.visit.specs.Writer as writer
 use Rattle.visit_check.proofs.turn.Statement.{statement}
 use Rattle.visit_check.proofs.turn.Tie as tie
 

@@ -1,9 +1,9 @@
-use Rattle.visit_write.proofs.Sound.{not-zero}
-use Rattle.visit_write.proofs.Cases.{by-checks}
-use Rattle.visit_write.specs.Answers.{found}
-use Rattle.visit.specs.Writer.{fine, wrong}
 use mathlib.Core.Path.{refl, sym, ap, _∙_}
 use borrow.Author.Needs.{needs}
+use Rattle.visit.specs.Writer.{fine, wrong}
+use Rattle.visit_write.specs.Answers.{found}
+use Rattle.visit_write.proofs.Sound.{not-zero}
+use Rattle.visit_write.proofs.Cases.{by-checks}
 use Rattle.visit_write.proofs.write.Statement.{statement}
 use Rattle.visit_write.proofs.write.Tie as tie
 

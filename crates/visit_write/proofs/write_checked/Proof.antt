@@ -1,6 +1,6 @@
 use native.Mathlib.Omega.{arith}
-use Rattle.visit_write.proofs.Cases.{too-long, no-room, all-counted, all-written}
 use borrow.Author.Needs.{needs}
+use Rattle.visit_write.proofs.Cases.{too-long, no-room, all-counted, all-written}
 use Rattle.visit_write.proofs.write_checked.Statement.{statement}
 use Rattle.visit_write.proofs.write_checked.Tie as tie
 

@@ -1,7 +1,7 @@
-use Rattle.visit_bytes.proofs.Over.{three-over}
-use lib.ListN.{length-set}
 use native.Mathlib.Omega.{arith}
 use borrow.Author.Needs.{needs}
+use lib.ListN.{length-set}
+use Rattle.visit_bytes.proofs.Over.{three-over}
 use Rattle.visit_bytes.proofs.fields.lay_header.Statement.{statement}
 use Rattle.visit_bytes.proofs.fields.lay_header.Tie as tie
 

@@ -1,5 +1,5 @@
-use Rattle.visit_bytes.proofs.Over.{slot-over}
 use borrow.Author.Needs.{needs}
+use Rattle.visit_bytes.proofs.Over.{slot-over}
 use Rattle.visit_bytes.proofs.fields.lay_slot.Statement.{statement}
 use Rattle.visit_bytes.proofs.fields.lay_slot.Tie as tie
 
@@ -35,11 +35,12 @@ same-length c = search needs
 
 returns : tie.Need-returns
 returns c =
-    let time = c .before .before .before .before .before .before .before .before .before .before .before .before .before .before in
-    let sizes = time in
-    slot-over _ _ _ _ _ _ _ _ _ _ _ _ (sizes .before .before .before .before .before .pre)
-    (sizes .before .before .before .answer .ensures .0) (sizes .before .before .answer2 .ensures .0)
-    (time .lay-value .ensures) (c .before .before .before .before .before .before .before .before .before .before .lay-answer .ensures) (c .before .before .before .before .before .before .lay-answer2 .ensures) (c .before .before .lay-answer3 .ensures)
+    let third = c .before .before .before .before .before .before in
+    let second = third .before .before .before .before in
+    let first = second .before .before .before .before in
+    let sizes = first .before .before in
+    slot-over _ _ _ _ _ _ _ _ _ _ _ _ (sizes .before .before .before .pre) (sizes .before .answer .ensures .0) (sizes .answer2 .ensures .0)
+    (first .lay-value .ensures) (second .lay-answer .ensures) (third .lay-answer2 .ensures) (c .before .before .lay-answer3 .ensures)
 
 pub lay-slot-spec : {M : Type 1} → statement M
 lay-slot-spec =

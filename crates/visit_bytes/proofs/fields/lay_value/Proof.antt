@@ -1,7 +1,7 @@
-use Rattle.visit_bytes.proofs.Over.{seven-over}
-use lib.ListN.{length-set}
 use native.Mathlib.Omega.{arith}
 use borrow.Author.Needs.{needs}
+use lib.ListN.{length-set}
+use Rattle.visit_bytes.proofs.Over.{seven-over}
 use Rattle.visit_bytes.proofs.fields.lay_value.Statement.{statement}
 use Rattle.visit_bytes.proofs.fields.lay_value.Tie as tie
 

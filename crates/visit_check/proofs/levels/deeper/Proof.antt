@@ -1,5 +1,5 @@
-use Rattle.visit_check.proofs.Laws.{deeper-more}
 use borrow.Author.Needs.{needs}
+use Rattle.visit_check.proofs.Laws.{deeper-more}
 use Rattle.visit_check.proofs.levels.deeper.Statement.{statement}
 use Rattle.visit_check.proofs.levels.deeper.Tie as tie
 

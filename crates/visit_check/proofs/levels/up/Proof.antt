@@ -1,7 +1,7 @@
 use native.Mathlib.Numerals.{add-one}
 use borrow.Author.Tests.{lt-ltb}
-use Rattle.laws.specs.Cases.{cases}
 use borrow.Author.Needs.{needs}
+use Rattle.laws.specs.Cases.{cases}
 use Rattle.visit_check.proofs.levels.up.Statement.{statement}
 use Rattle.visit_check.proofs.levels.up.Tie as tie
 

@@ -1,5 +1,5 @@
-use Rattle.visit.specs.Writer.{slotFits}
 use borrow.Author.Needs.{needs}
+use Rattle.visit.specs.Writer.{slotFits}
 use Rattle.visit_check.proofs.limits.slot_fits.Statement.{statement}
 use Rattle.visit_check.proofs.limits.slot_fits.Tie as tie
 
@@ -20,7 +20,15 @@ is-within-requires-3 c κs = search needs
 
 returns : tie.Need-returns
 unfolding slotFits
-returns c = rw (c .is-within3 .ensures, c .before .is-within2 .ensures, c .before .before .is-within .ensures, c .before .before .before .at-most .ensures, c .before .before .before .before .most .ensures)
+returns c =
+    let time = c .before .before .before in
+    rw (
+      c .is-within3 .ensures,
+      c .before .is-within2 .ensures,
+      c .before .before .is-within .ensures,
+      time .at-most .ensures,
+      time .before .most .ensures,
+    )
 
 pub slot-fits-spec : {M : Type 1} → statement M
 slot-fits-spec =

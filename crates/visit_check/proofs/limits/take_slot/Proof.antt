@@ -1,5 +1,5 @@
-use Rattle.laws.specs.Cases.{cases}
 use borrow.Author.Needs.{needs}
+use Rattle.laws.specs.Cases.{cases}
 use Rattle.visit_check.proofs.limits.take_slot.Statement.{statement}
 use Rattle.visit_check.proofs.limits.take_slot.Tie as tie
 

@@ -1,6 +1,6 @@
-use Rattle.visit_write.proofs.Filling.{Filling, filling-start, filling-step, first-after, same-room, filling-end}
-use borrow.Author.Needs.{needs}
 use native.Mathlib.Omega.{arith}
+use borrow.Author.Needs.{needs}
+use Rattle.visit_write.proofs.Filling.{Filling, filling-start, filling-step, first-after, same-room, filling-end}
 use Rattle.visit_write.proofs.fill.fill.Statement.{statement}
 use Rattle.visit_write.proofs.fill.fill.Tie as tie
 

@@ -1,5 +1,5 @@
-use Rattle.visit_write.proofs.Ends.{by-parts}
 use borrow.Author.Needs.{needs}
+use Rattle.visit_write.proofs.Ends.{by-parts}
 use Rattle.visit_write.proofs.fill.step_back.Statement.{statement}
 use Rattle.visit_write.proofs.fill.step_back.Tie as tie
 

@@ -1,8 +1,8 @@
-use Rattle.visit_write.proofs.Checking.{Checking, checking-start, checking-onward, checking-halt, checking-end}
-use borrow.Author.Needs.{needs}
-use native.Mathlib.Omega.{arith}
-use mathlib.Core.Path.{_∙_}
 use Prim.Native.Nat.{_-_}
+use mathlib.Core.Path.{_∙_}
+use native.Mathlib.Omega.{arith}
+use borrow.Author.Needs.{needs}
+use Rattle.visit_write.proofs.Checking.{Checking, checking-start, checking-onward, checking-halt, checking-end}
 use Rattle.visit_write.proofs.in_order.check.Statement.{statement}
 use Rattle.visit_write.proofs.in_order.check.Tie as tie
 

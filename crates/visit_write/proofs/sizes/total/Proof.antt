@@ -1,7 +1,7 @@
-use Rattle.visit_write.proofs.Counting.{Counting, size-most, counting-start, counting-on, too-many, counting-end}
-use borrow.Author.Needs.{needs}
-use native.Mathlib.Omega.{arith}
 use Prim.Native.Nat.{_-_}
+use native.Mathlib.Omega.{arith}
+use borrow.Author.Needs.{needs}
+use Rattle.visit_write.proofs.Counting.{Counting, size-most, counting-start, counting-on, too-many, counting-end}
 use Rattle.visit_write.proofs.sizes.total.Statement.{statement}
 use Rattle.visit_write.proofs.sizes.total.Tie as tie
 
