@@ -10,10 +10,10 @@ use visit_write::Written;
 pub fn hand_count(number: u8, value: usize, count: &mut usize) -> u8
     ensures { λ r. ⌜ (r, now (count .exit)) ≡ into.countInto number value (now (count .entry)) ⌝ }
 {
-    if number == paper::DONE {
-        *count = value;
+    if number != paper::DONE {
         return number;
     }
+    *count = value;
     number
 }
 
@@ -22,10 +22,10 @@ pub fn hand_count(number: u8, value: usize, count: &mut usize) -> u8
 pub fn refusal_value(number: u8, value: usize) -> usize
     ensures { λ r. ⌜ r ≡ into.besideRefusal number value ⌝ }
 {
-    if number != paper::DONE {
-        return value;
+    if number == paper::DONE {
+        return 0;
     }
-    0
+    value
 }
 
 // The number of a reading.

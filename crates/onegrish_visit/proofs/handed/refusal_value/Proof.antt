@@ -4,10 +4,10 @@ use Rattle.onegrish_visit.proofs.handed.refusal_value.Statement.{statem
 use Rattle.onegrish_visit.proofs.handed.refusal_value.Tie as tie
 
 returns : tie.Need-returns
-returns c = rw (ne-eqb _ _ (c .if1 .taken))
+returns c = rw (eq-eqb _ _ (c .if1 .taken))
 
 returns-2 : tie.Need-returns-2
-returns-2 c = rw (eq-eqb _ _ (c .if1 .left))
+returns-2 c = rw (ne-eqb _ _ (c .if1 .left))
 
 pub refusal-value-spec : {M : Type 1} → statement M
 refusal-value-spec = tie.close (tie.spec returns returns-2)
