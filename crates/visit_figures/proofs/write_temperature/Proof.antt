@@ -1,44 +1,32 @@
+-- From the first negative word on a minus, and how far from zero it lies.
+use Rattle.visit_figures.proofs.Laws.{first}
+use Rattle.visit_figures.specs.Figures.{temperature}
 use borrow.Author.Needs.{needs}
+use borrow.Author.Tests.{lt-ltb, le-ltb}
 use Rattle.visit_figures.proofs.write_temperature.Statement.{statement}
 use Rattle.visit_figures.proofs.write_temperature.Tie as tie
 
-write-hundredths-requires : tie.Need-write-hundredths-requires
-write-hundredths-requires c κs = search needs
-
-same-length : tie.Need-same-length
-same-length c = search needs
-
 returns : tie.Need-returns
-returns c = ?
-
-write-byte-requires : tie.Need-write-byte-requires
-write-byte-requires c κs = search needs
-
-sub-write-hundredths : tie.Need-sub-write-hundredths
-sub-write-hundredths c = search needs
-
-add-write-hundredths : tie.Need-add-write-hundredths
-add-write-hundredths c = search needs
-
-write-hundredths-requires-2 : tie.Need-write-hundredths-requires-2
-write-hundredths-requires-2 c κs = search needs
-
-same-length-2 : tie.Need-same-length-2
-same-length-2 c = search needs
+unfolding temperature
+returns c = rw (lt-ltb _ _ (c .before .before .before .before .if1 .taken)) (c .before .before .write-hundredths .ensures)
 
 returns-2 : tie.Need-returns-2
-returns-2 c = ?
+unfolding temperature
+returns-2 c =
+    let m = c .before .before in
+    let b = m .before .before .before .before in
+    rw (le-ltb _ _ (b .before .before .if1 .left)) (first _ _ _ (b .write-byte .ensures) (m .write-hundredths2 .ensures))
 
 pub write-temperature-spec : {M : Type 1} → statement M
 write-temperature-spec =
     tie.close
     (tie.spec
-    write-hundredths-requires
-    same-length
+    (λ c κs. tt)
+    (λ c. search needs)
     returns
-    write-byte-requires
-    sub-write-hundredths
-    add-write-hundredths
-    write-hundredths-requires-2
-    same-length-2
+    (λ c κs. tt)
+    (λ c. search needs)
+    (λ c. search needs)
+    (λ c κs. tt)
+    (λ c. search needs)
     returns-2)
