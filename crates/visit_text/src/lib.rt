@@ -48,13 +48,27 @@ pub fn after(place: Place, step: Step) -> Place
     }
 }
 
+// The number of the innermost open group among its brothers.
+pub fn number(place: Place) -> u32
+    ensures { λ r. ⌜ r ≡ text.number place ⌝ }
+{
+    let level = place.level;
+    match level {
+        1 => return place.house,
+        2 => return place.floor,
+        3 => return place.room,
+        4 => return place.reading,
+        _ => return 0,
+    }
+}
+
 // Writes the lines of a step, where the walk stands at a place after it.
 // A close and a stray step have none.
 pub fn write_step(place: Place, step: Step, out: &mut [u8], at: usize) -> usize
     ensures { λ r. ⌜ (now (out .exit), r) ≡ (now (out .entry), at) ▹ text.lines place step ⌝ }
 {
     match step {
-        Step::Open => return write_group(place.level, places::number(place), out, at),
+        Step::Open => return write_group(place.level, number(place), out, at),
         Step::Slot {
             time,
             temperature,

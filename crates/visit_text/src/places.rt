@@ -61,17 +61,3 @@ pub(crate) fn back(mut place: Place) -> Place
     }
     place
 }
-
-// The number of the innermost open group among its brothers.
-pub(crate) fn number(place: Place) -> u32
-    ensures { λ r. ⌜ r ≡ text.number place ⌝ }
-{
-    let level = place.level;
-    match level {
-        1 => return place.house,
-        2 => return place.floor,
-        3 => return place.room,
-        4 => return place.reading,
-        _ => return 0,
-    }
-}

@@ -6,8 +6,8 @@ use borrow.Author.Tests.{ne-eqb}
 use lib.ListN.{length, drop}
 use mathlib.Core.Path.{_≡_}
 use native.Mathlib.Omega.{arith}
-use Rattle.visit_typed.proofs.same.same.Statement.{statement}
-use Rattle.visit_typed.proofs.same.same.Tie as tie
+use Rattle.visit_typed.proofs.same.Statement.{statement}
+use Rattle.visit_typed.proofs.same.Tie as tie
 
 abbrev Inv-loop : tie.InvT-loop
 Inv-loop a b i₀ i = (i ≤ length a) × (length a ≡ length b) × (sameOn (drop i a) (drop i b) ≡ same a b)

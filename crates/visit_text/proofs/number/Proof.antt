@@ -1,8 +1,8 @@
 -- The count of the level.
 use Rattle.visit_text.specs.Text.{number}
 use borrow.Author.Tests.{ne-eqb}
-use Rattle.visit_text.proofs.places.number.Statement.{statement}
-use Rattle.visit_text.proofs.places.number.Tie as tie
+use Rattle.visit_text.proofs.number.Statement.{statement}
+use Rattle.visit_text.proofs.number.Tie as tie
 
 returns : tie.Need-returns
 unfolding number
