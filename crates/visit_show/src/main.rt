@@ -1,6 +1,4 @@
 // Shows a visit record: reads it from standard input, and writes it as text to standard output.
-ghost use Prim.Native.Nat.{_<_};
-
 mod refusals; // what is said of a record that is refused
 
 use bench_bytes::front;
@@ -8,7 +6,6 @@ use libc::STDERR_FILENO;
 use libc::STDOUT_FILENO;
 use visit_input::Input;
 use visit_read::Read;
-use visit_text::Place;
 
 // What is kept from step to step.
 struct Shown {
