@@ -1,0 +1,2 @@
+-- The law that both walks cite.
+pub mod Walks

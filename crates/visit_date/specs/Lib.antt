@@ -1,0 +1,3 @@
+-- Dates: the calendar, and moments of it.
+pub mod Dates
+pub mod Examples

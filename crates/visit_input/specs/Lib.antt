@@ -1,0 +1,2 @@
+-- Standard input, read whole.
+pub mod Input

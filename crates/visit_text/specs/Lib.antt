@@ -1,0 +1,3 @@
+-- A visit as text.
+pub mod Text
+pub mod Examples

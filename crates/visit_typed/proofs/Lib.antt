@@ -1,0 +1,2 @@
+-- What the loops cite.
+pub mod Loops

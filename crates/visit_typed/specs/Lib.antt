@@ -1,0 +1,4 @@
+-- Values read from text.
+pub mod Same
+pub mod Typed
+pub mod Examples
