@@ -1,0 +1,3 @@
+-- The answers of visit read and visit write.
+pub mod Line
+pub mod Shown

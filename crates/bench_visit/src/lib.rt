@@ -1,0 +1,2 @@
+// Visit records: visit read, visit write.
+mod steps;
