@@ -1,3 +1,4 @@
 -- The answers of visit read and visit write.
 pub mod Line
 pub mod Shown
+pub mod Visits

@@ -2,12 +2,14 @@
 use borrow.Author.Needs.{needs}
 use Rattle.bench_lent.specs.Lent.{lentOf}
 use Rattle.bench_lent.proofs.Front.{within-whole, lent-length}
-use Rattle.bench_bus.proofs.Back.{Back, back}
+use Rattle.bench_lent.proofs.Back.{Back, back}
 use Rattle.bench_bus.proofs.decode.Statement.{statement}
 use Rattle.bench_bus.proofs.decode.Tie as tie
 
 left : (e : tie.After-decode-write) → Back (e .before .before .within .result) (e .before .before .before .filled .result) (e .decode-write .last .1 .1 .0)
-left e = back _ _ _ (e .before .before .within .ensures .1) (e .before .before .before .filled .ensures .1) (e .decode-write .kept .1 .1 .0)
+left e =
+    back _ _ _ (within-whole _ (e .before .before .before .filled .result) (e .before .before .within .ensures .1) (e .before .before .before .filled .ensures .1))
+    (e .decode-write .kept .1 .1 .0)
 
 returns : tie.Need-returns
 unfolding lentOf

@@ -1,2 +1,0 @@
--- A law that the three commands cite.
-pub mod Back
