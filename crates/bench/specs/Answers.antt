@@ -10,17 +10,19 @@ use Rattle.bench_command.specs.declared.Asked.the-variants as asks
 use Rattle.bench_command.specs.Commands.{asked}
 use Rattle.bench_phrases.specs.Phrases.{refused, ended}
 use Rattle.bench_question.specs.Questions.{replied}
+use Rattle.bench_visit.specs.Visits as visits
 use Rattle.bench_machine.specs.Outcomes as outcomes
 
 -- ---- what a line asks: each answer has its newline
 
-abbrev pub askedAnswered : Asked → List ℕ → Machine → Page → Machine × Page
-askedAnswered asks.Nothing bytes m page = (m, page)
-askedAnswered (asks.Refused reason) bytes m page = (m, refused reason page)
-askedAnswered (asks.Question question) bytes m page = (m, ended (page ▹ replied question bytes))
-askedAnswered (asks.Fresh conversions) bytes m page = outcomes.fresh conversions page
-askedAnswered (asks.Event event) bytes m page = outcomes.event m event page
-askedAnswered asks.Ledger bytes m page = (m, page ▹ outcomes.tally (tallied m) ▹ outcomes.newline)
+abbrev pub askedAnswered : Asked → List ℕ → List ℕ → Machine → Page → Machine × Page
+askedAnswered asks.Nothing line bytes m page = (m, page)
+askedAnswered (asks.Refused reason) line bytes m page = (m, refused reason page)
+askedAnswered (asks.Question question) line bytes m page = (m, ended (page ▹ replied question bytes))
+askedAnswered (asks.VisitWrite room from) line bytes m page = (m, visits.write line from room page)
+askedAnswered (asks.Fresh conversions) line bytes m page = outcomes.fresh conversions page
+askedAnswered (asks.Event event) line bytes m page = outcomes.event m event page
+askedAnswered asks.Ledger line bytes m page = (m, page ▹ outcomes.tally (tallied m) ▹ outcomes.newline)
 
 -- ---- a line, read into zeros: two digits make a byte, so that it has at most 2,048
 
@@ -28,4 +30,4 @@ unfoldable pub zeros : List ℕ
 zeros = replicate 2048 0
 
 unfoldable pub answered : List ℕ → Machine → Page → Machine × Page
-answered line m page = askedAnswered (asked line zeros .0) (asked line zeros .1) m page
+answered line m page = askedAnswered (asked line zeros .0) line (asked line zeros .1) m page

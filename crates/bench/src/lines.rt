@@ -15,12 +15,12 @@ pub fn answer(line: &[u8], m: Machine, out: &mut [u8], at: usize) -> Answered
 {
     let mut bytes = [0u8; MOST_BYTES];
     let asked = bench_command::read(line, &mut bytes);
-    answer_asked(asked, &bytes, m, out, at)
+    answer_asked(asked, line, &bytes, m, out, at)
 }
 
 // Answers what a line asks, with its bytes.
-fn answer_asked(asked: Asked, bytes: &[u8], m: Machine, out: &mut [u8], at: usize) -> Answered
-    ensures { λ r. ⌜ (r .machine, (now (out .exit), r .at)) ≡ answers.askedAnswered asked (now (bytes .entry)) m (now (out .entry), at) ⌝ }
+fn answer_asked(asked: Asked, line: &[u8], bytes: &[u8], m: Machine, out: &mut [u8], at: usize) -> Answered
+    ensures { λ r. ⌜ (r .machine, (now (out .exit), r .at)) ≡ answers.askedAnswered asked (now (line .entry)) (now (bytes .entry)) m (now (out .entry), at) ⌝ }
 {
     match asked {
         Asked::Nothing => return stay(m, at),
@@ -28,6 +28,10 @@ fn answer_asked(asked: Asked, bytes: &[u8], m: Machine, out: &mut [u8], at: usiz
         Asked::Question(question) => return stay(
             m,
             bench_question::reply(question, bytes, out, at),
+        ),
+        Asked::VisitWrite(room, from) => return stay(
+            m,
+            bench_visit::write(line, from, room, out, at),
         ),
         Asked::Fresh(n) => return bench_machine::fresh(n, out, at),
         Asked::Event(event) => return bench_machine::event(m, event, out, at),

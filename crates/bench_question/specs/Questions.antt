@@ -22,6 +22,8 @@ use Rattle.bench_rooms.specs.Map as map
 use Rattle.bench_waiting.specs.Times as times
 use Rattle.bench_lent.specs.Lent.{lentOf}
 use Rattle.bench_bus.specs.Messages.{message}
+use Rattle.visit.specs.Lent.{readInto}
+use Rattle.bench_visit.specs.Visits as visits
 
 abbrev pub cal : ℕ → ℕ → List ℕ → List ℕ
 cal one two bytes = readings.cal (take one bytes) (take two (drop one bytes))
@@ -60,3 +62,4 @@ replied (the.Poll allowance status) bytes = times.poll (polled (take status byte
 replied (the.BusWrite device pairs room) bytes = message (encodedWrite device (take pairs bytes) (lentOf room))
 replied (the.BusDecode bus sent room) bytes = message (decodedWrite bus (take sent bytes) (lentOf room))
 replied (the.BusRead device register room) bytes = message (encodedRead device register (lentOf room))
+replied (the.VisitRead length room) bytes = visits.read (readInto (take length bytes) (visits.lentSteps room))

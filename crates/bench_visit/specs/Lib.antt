@@ -2,3 +2,4 @@
 pub mod Line
 pub mod Shown
 pub mod Visits
+pub mod Examples

@@ -7,7 +7,7 @@ use lib.ListN.{replicate, take, drop}
 use Rattle.paper.specs.Numbers.{done}
 use Rattle.paper.specs.Answers.{Answer}
 use Rattle.visit.specs.Words.{wordsEach}
-use Rattle.visit_write.specs.Written.{writeInto}
+use Rattle.visit.specs.Lent.{writeInto}
 use Rattle.bench_page.specs.Page.{Page, letters, _▹_}
 use Rattle.bench_page.specs.Digits.{decimal}
 use Rattle.bench_row.specs.Row.{filled, buffer}

@@ -2,9 +2,9 @@
 ghost use mathlib.Core.Path.{_≡_};
 ghost use Prim.Native.Nat.{_≤_};
 ghost use lib.ListN.{length as size, drop, take};
-ghost use Rattle.visit.specs.Lent.{readInto};
+ghost use Rattle.visit.specs.Lent.{readInto, writeInto};
 ghost use Rattle.visit_read.specs.Answers.{readAnswer};
-ghost use Rattle.visit_write.specs.Written.{writtenAnswer, writeInto};
+ghost use Rattle.visit_write.specs.Answers.{writtenAnswer};
 ghost use Rattle.bench_page.specs.Page.{_▹_};
 ghost use Rattle.bench_phrases.specs.Phrases.{ended};
 ghost use Rattle.bench_lent.specs.Lent.{lentOf};

@@ -27,6 +27,9 @@ returns-7 c = rw (c .before .before .before .before .before .before .question7 .
 returns-8 : tie.Need-returns-8
 returns-8 c = rw (c .before .before .before .before .before .question8 .given .1, c .before .before .read .ensures)
 
+returns-9 : tie.Need-returns-9
+returns-9 c = rw (c .before .before .before .before .before .before .question9 .given .1, c .before .before .read2 .ensures, c .before .before .before .before .front4 .ensures)
+
 pub write-reply-spec : {M : Type 1} → statement M
 write-reply-spec =
     tie.close
@@ -51,6 +54,9 @@ write-reply-spec =
     (λ c. search needs)
     (λ c κs. tt)
     (λ c. search needs)
+    (λ c κs. tt)
+    (λ c κs. tt)
+    (λ c. search needs)
     returns
     (λ c. search needs)
     returns-2
@@ -65,4 +71,6 @@ write-reply-spec =
     (λ c. search needs)
     returns-7
     (λ c. search needs)
-    returns-8)
+    returns-8
+    (λ c. search needs)
+    returns-9)

@@ -16,7 +16,7 @@ unfolding lentOf
 returns c =
     let e = c .before .before .before .before .before .before in
     let n = e .before .before in
-    rw (c .before .before .write-lent .ensures, left e .front, e .write .ensures, n .within .ensures .0, n .before .filled .ensures .0)
+    rw (c .before .before .write-lent .ensures, left e .front, e .write .ensures .0, n .within .ensures .0, n .before .filled .ensures .0)
 
 pub write-record-spec : {M : Type 1} → statement M
 write-record-spec =
