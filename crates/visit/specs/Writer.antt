@@ -3,7 +3,7 @@
 use Prim.Native.Nat.{ℕ, zero, suc, _+_}
 use mathlib.Core.Bool.{Bool, cond, _&&_}
 use mathlib.Core.List.{List, [], _∷_, _++_}
-use lib.Dec.{eqb, ltb, leb}
+use lib.Dec.{ltb, leb}
 use lib.ListN.{length}
 use Rattle.visit.specs.declared.Place.{Place}
 use Rattle.visit.specs.declared.Place.the-variants as place
@@ -36,7 +36,7 @@ deeper (suc l) = onward (stage.Open l holds.Nothing)
 
 -- after a close: the record's own group has three levels under it
 abbrev pub up : ℕ → Stage
-up l = cond (eqb l 3) stage.Done (stage.Open (suc l) holds.Groups)
+up l = cond (ltb l 3) (stage.Open (suc l) holds.Groups) stage.Done
 
 abbrev pub fromStart : Step → Turn
 fromStart opened = onward (stage.Open 3 holds.Nothing)

@@ -1,0 +1,59 @@
+use Rattle.visit_bytes.proofs.Over.{five-over}
+use lib.ListN.{length-set}
+use native.Mathlib.Omega.{arith}
+use borrow.Author.Needs.{needs}
+use Rattle.visit_bytes.proofs.fields.lay_missing.Statement.{statement}
+use Rattle.visit_bytes.proofs.fields.lay_missing.Tie as tie
+
+slice-write-out : tie.Need-slice-write-out
+slice-write-out c = search needs
+
+add-out : tie.Need-add-out
+add-out c = search needs
+
+slice-write-out-2 : tie.Need-slice-write-out-2
+slice-write-out-2 c = simp length-set (omega arith)
+
+add-out-2 : tie.Need-add-out-2
+add-out-2 c = search needs
+
+slice-write-out-3 : tie.Need-slice-write-out-3
+slice-write-out-3 c = simp length-set (omega arith)
+
+add-out-3 : tie.Need-add-out-3
+add-out-3 c = search needs
+
+slice-write-out-4 : tie.Need-slice-write-out-4
+slice-write-out-4 c = simp length-set (omega arith)
+
+cast-out : tie.Need-cast-out
+cast-out c = search needs
+
+add-out-4 : tie.Need-add-out-4
+add-out-4 c = search needs
+
+slice-write-out-5 : tie.Need-slice-write-out-5
+slice-write-out-5 c = simp length-set (omega arith)
+
+same-length : tie.Need-same-length
+same-length c = search needs
+
+returns : tie.Need-returns
+returns c = five-over _ _ _ _ _ _ _ (search needs)
+
+pub lay-missing-spec : {M : Type 1} → statement M
+lay-missing-spec =
+    tie.close
+    (tie.spec
+    slice-write-out
+    add-out
+    slice-write-out-2
+    add-out-2
+    slice-write-out-3
+    add-out-3
+    slice-write-out-4
+    cast-out
+    add-out-4
+    slice-write-out-5
+    same-length
+    returns)

@@ -1,0 +1,9 @@
+pub mod Steps
+pub mod Sound
+pub mod Frames
+pub mod Ends
+pub mod Filling
+pub mod Checking
+pub mod Counting
+pub mod Cases
+pub mod OneAnswer
