@@ -19,7 +19,14 @@ pub fn answer(line: &[u8], m: Machine, out: &mut [u8], at: usize) -> Answered
 }
 
 // Answers what a line asks, with its bytes.
-fn answer_asked(asked: Asked, line: &[u8], bytes: &[u8], m: Machine, out: &mut [u8], at: usize) -> Answered
+fn answer_asked(
+    asked: Asked,
+    line: &[u8],
+    bytes: &[u8],
+    m: Machine,
+    out: &mut [u8],
+    at: usize,
+) -> Answered
     ensures { λ r. ⌜ (r .machine, (now (out .exit), r .at)) ≡ answers.askedAnswered asked (now (line .entry)) (now (bytes .entry)) m (now (out .entry), at) ⌝ }
 {
     match asked {

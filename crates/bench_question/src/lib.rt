@@ -56,12 +56,7 @@ fn write_reply(question: Question, bytes: &[u8], out: &mut [u8], at: usize) -> u
             out,
             at,
         ),
-        Question::VisitRead(length, room) => bench_visit::read(
-            front(bytes, length),
-            room,
-            out,
-            at,
-        ),
+        Question::VisitRead(length, room) => bench_visit::read(front(bytes, length), room, out, at),
     }
 }
 

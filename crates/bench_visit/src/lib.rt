@@ -1,7 +1,7 @@
 // Visit records: visit read, visit write.
 ghost use mathlib.Core.Path.{_≡_};
 ghost use Prim.Native.Nat.{_≤_};
-ghost use lib.ListN.{length as size, drop, take};
+ghost use lib.ListN.{length as size};
 ghost use Rattle.visit.specs.Lent.{readInto, writeInto};
 ghost use Rattle.visit_read.specs.Answers.{readAnswer};
 ghost use Rattle.visit_write.specs.Answers.{writtenAnswer};

@@ -1,6 +1,6 @@
 // A list of steps: laid from the words of a line, and shown as words.
 ghost use mathlib.Core.Path.{_≡_};
-ghost use Prim.Native.Nat.{_/_, _≤_};
+ghost use Prim.Native.Nat.{_/_};
 ghost use mathlib.Core.List.{[]};
 ghost use lib.ListN.{length as size, drop};
 ghost use Rattle.bench_page.specs.Page.{_▹_};

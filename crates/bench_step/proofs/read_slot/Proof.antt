@@ -5,7 +5,7 @@ use Rattle.bench_step.proofs.read_slot.Tie as tie
 
 returns : tie.Need-returns
 unfolding slotRead
-returns c = 
+returns c =
     let a = c .before .before .before .before .before .before .before in
     rw (
       c .slot .ensures,

@@ -1,5 +1,4 @@
 -- The front up to the mark.
-use mathlib.Core.Path.{_∙_}
 use Rattle.bench_step.proofs.Fronts.{taken}
 use Rattle.bench_step.proofs.up_to.Statement.{statement}
 use Rattle.bench_step.proofs.up_to.Tie as tie

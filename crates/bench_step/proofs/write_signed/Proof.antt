@@ -1,6 +1,5 @@
 -- The test of the definition.
 use borrow.Author.Tests.{lt-ltb, le-ltb}
-use mathlib.Core.Path.{refl}
 use borrow.Author.Needs.{needs}
 use Rattle.bench_step.proofs.write_signed.Statement.{statement}
 use Rattle.bench_step.proofs.write_signed.Tie as tie

@@ -7,7 +7,7 @@ use Rattle.bench_step.proofs.write_slot.Tie as tie
 
 returns : tie.Need-returns
 unfolding slot
-returns c = 
+returns c =
     let h = c .before .before in
     let p = h .before .before .before .before in
     let t = p .before .before .before .before in

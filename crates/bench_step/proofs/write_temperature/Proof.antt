@@ -1,5 +1,4 @@
 -- The cases of the definition.
-use mathlib.Core.Path.{refl}
 use borrow.Author.Needs.{needs}
 use Rattle.bench_step.proofs.write_temperature.Statement.{statement}
 use Rattle.bench_step.proofs.write_temperature.Tie as tie

@@ -6,7 +6,7 @@ use Rattle.bench_visit.proofs.write_listed.Statement.{statement}
 use Rattle.bench_visit.proofs.write_listed.Tie as tie
 
 returns : tie.Need-returns
-returns c = 
+returns c =
     let w = c .before .before in
     let f = w .before .before .before .before in
     rw (eq-eqb _ _ (f .before .before .before .before .if1 .taken)) (joined _ _ _ (f .fill .ensures) (w .write .ensures))

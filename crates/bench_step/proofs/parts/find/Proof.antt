@@ -3,7 +3,7 @@ use Prim.Native.Nat.{ℕ, _+_, _-_, _≤_, _<_}
 use borrow.Author.Tests.{eq-eqb, ne-eqb}
 use native.Mathlib.Omega.{arith}
 use mathlib.Core.List.{List}
-use mathlib.Core.Path.{_≡_, refl}
+use mathlib.Core.Path.{_≡_}
 use lib.ListN.{length, getD, drop, drop-of-length-le}
 use Rattle.laws.specs.Rest.{rest}
 use Rattle.bench_step.specs.Reading.{before}
@@ -33,10 +33,16 @@ loop-holds : tie.Need-loop-holds Inv-loop μ-loop
 loop-holds c = omega arith
 
 returns : tie.Need-returns Inv-loop μ-loop
-returns c = omega (arith, stops (c .before .before .before .before .args .text .now) (c .before .before .before .before .args .mark) (c .before .before .before .loop .i) (c .before .before .loop-test .taken) (c .if1 .taken))
+returns c =
+    let t = c .before .before in
+    let a = t .before .before .args in
+    omega (arith, stops (a .text .now) (a .mark) (t .before .loop .i) (t .loop-test .taken) (c .if1 .taken))
 
 loop-again : tie.Need-loop-again Inv-loop μ-loop
-loop-again c = omega (arith, goes-on (c .before .before .before .before .args .text .now) (c .before .before .before .before .args .mark) (c .before .before .before .loop .i) (c .before .before .loop-test .taken) (c .if1 .left))
+loop-again c =
+    let t = c .before .before in
+    let a = t .before .before .args in
+    omega (arith, goes-on (a .text .now) (a .mark) (t .before .loop .i) (t .loop-test .taken) (c .if1 .left))
 
 returns-2 : tie.Need-returns-2 Inv-loop μ-loop
 returns-2 c = omega (arith, at-end (c .before .before .args .text .now) (c .before .before .args .mark) (c .before .loop .i) (c .loop-test .left))

@@ -1,5 +1,5 @@
 -- The loop keeps that the steps of the words still to come, laid after those that stand in the list, make what all make.
-use Prim.Native.Nat.{ℕ, _+_, _-_, _*_, _/_, _≤_}
+use Prim.Native.Nat.{_-_, _*_, _/_, _≤_}
 use native.Mathlib.Omega.{arith}
 use borrow.Author.Tests.{not-true, not-false}
 use mathlib.Core.List.{[]}

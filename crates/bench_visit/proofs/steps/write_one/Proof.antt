@@ -5,7 +5,9 @@ use Rattle.bench_visit.proofs.steps.write_one.Statement.{statement}
 use Rattle.bench_visit.proofs.steps.write_one.Tie as tie
 
 returns : tie.Need-returns
-returns c = rw (← c .before .before .before .before .step-at .ensures) (joined _ _ _ (c .before .before .before .before .before .before .before .write-gap .ensures) (c .before .before .write .ensures))
+returns c =
+    let s = c .before .before .before .before in
+    rw (← s .step-at .ensures) (joined _ _ _ (s .before .before .before .write-gap .ensures) (c .before .before .write .ensures))
 
 pub write-one-spec : {M : Type 1} → statement M
 write-one-spec =
