@@ -21,7 +21,22 @@ fn line_of(text: &[u8], before: u8) -> &[u8] {
 fn write_reason(fault: u8, page: &mut [u8], at: usize) -> usize {
     write_text(
         line_of(
-            b"\nindentation is not 0, 2, 4, 6 or 8 spaces\nthis word is none of house, floor, room, reading, time, temperature, pressure, humidity\nthis line stands at the wrong depth\ntime, temperature, pressure and humidity stand in this order\nthe group before this line is empty\nthe number is not this group's place\na time is written as: time 1700000000\na temperature is written as: temperature 25.08 \xC2\xB0C\na pressure is written as: pressure 100653.25 Pa\na humidity is written as: humidity 36.5 %RH\nthis value is outside its limits\na pressure is a multiple of 1/256 Pa\na humidity is a multiple of 1/1024 %RH\na missing value has a number from 10 to 14\nthe text ends too soon\n",
+            b"\n\
+                indentation is not 0, 2, 4, 6 or 8 spaces\n\
+                this word is none of house, floor, room, reading, time, temperature, pressure, humidity\n\
+                this line stands at the wrong depth\n\
+                time, temperature, pressure and humidity stand in this order\n\
+                the group before this line is empty\n\
+                the number is not this group's place\n\
+                a time is written as: time 1700000000\n\
+                a temperature is written as: temperature 25.08 \xC2\xB0C\n\
+                a pressure is written as: pressure 100653.25 Pa\n\
+                a humidity is written as: humidity 36.5 %RH\n\
+                this value is outside its limits\n\
+                a pressure is a multiple of 1/256 Pa\n\
+                a humidity is a multiple of 1/1024 %RH\n\
+                a missing value has a number from 10 to 14\n\
+                the text ends too soon\n",
             fault,
         ),
         page,

@@ -28,5 +28,7 @@ pub as-text :
     (line (letters "    temperature -0.05 " ++ (0xC2 ∷ 0xB0 ∷ letters "C"))
     (line (letters "    pressure 0 Pa")
     (line (letters "    humidity missing 10 (channel skipped)") [])))))
-unfolding shown.textFrom shown.start shown.after shown.deeper shown.back shown.oneMore shown.number shown.lines shown.group shown.groupForm shown.named shown.time shown.missing shown.temperature shown.pressure shown.humidity figures.temperature figures.hundredths figures.pressure figures.humidity figures.amount figures.decimals figures.missing figures.reason dates.date dates.walk dates.yearDays dates.monthDays dates.isLeap filledFrom spelt.decimal spelt.spelled
+unfolding shown.textFrom shown.start shown.after shown.deeper shown.back shown.oneMore shown.number shown.lines shown.group shown.groupForm shown.named
+    shown.time shown.missing shown.temperature shown.pressure shown.humidity figures.temperature figures.hundredths figures.pressure figures.humidity figures.amount figures.decimals figures.missing
+    figures.reason dates.date dates.walk dates.yearDays dates.monthDays dates.isLeap filledFrom spelt.decimal spelt.spelled
 as-text = refl
