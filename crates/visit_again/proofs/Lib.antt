@@ -1,0 +1,3 @@
+-- Why what is shown is read back.
+pub mod Digits
+pub mod Again

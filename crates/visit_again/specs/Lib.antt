@@ -1,0 +1,2 @@
+-- What is shown is read back.
+pub mod Again
