@@ -75,8 +75,9 @@ loop-holds t c =
 loop-less : (t : ℕ) → read-body-lts.Need-loop-less (body-calls t) (read-body-at t) read-body.Post Inv μ
 loop-less t c =
     let called = c .before .before .before .before .before in
-    let l = called .before .before .before .loop in
-    let a = called .before .before .before .before .before .before .before .before .before .before .before .before .before .args in
+    let turn = called .before .before .before in
+    let l = turn .loop in
+    let a = turn .before .before .before .before .before .before .before .before .before .before .args in
     let x = subst (Passes (l .i) (a .end) (l .n)) (c .before .r .given .1) (called .read-field2 .ensures .1) in
     omega arith
 
@@ -84,8 +85,9 @@ loop-again : (t : ℕ) → read-body-lts.Need-loop-again (body-calls t) (read-bo
 loop-again t c =
     let called = c .before .before .before .before .before in
     let test = called .before .before .loop-test .taken in
-    let l = called .before .before .before .loop in
-    let a = called .before .before .before .before .before .before .before .before .before .before .before .before .before .args in
+    let turn = called .before .before .before in
+    let l = turn .loop in
+    let a = turn .before .before .before .before .before .before .before .before .before .before .args in
     let x = subst (Passes (l .i) (a .end) (l .n)) (c .before .r .given .1) (called .read-field2 .ensures .1) in
     let f = fieldAt (a .levels) (a .bytes .now) (a .end) in
     let left = l .inv .1 .1 .1 in
