@@ -8,6 +8,7 @@ mod places;
 
 use visit::Answer;
 use visit::Step;
+use visit_date::Moment;
 
 // Where a walk over steps stands: how many groups are open, and how many groups of each level the one around them has so far.
 pub struct Place {
@@ -103,7 +104,13 @@ pub fn write_time(level: u8, time: u32, out: &mut [u8], at: usize) -> usize
     ensures { λ r. ⌜ (now (out .exit), r) ≡ (now (out .entry), at) ▹ text.time level time ⌝ }
 {
     let next = write_name(level, b"time", out, at);
-    let d = visit_date::date(time);
+    write_date(time, visit_date::date(time), out, next)
+}
+
+// Writes seconds, and their date.
+fn write_date(time: u32, d: Moment, out: &mut [u8], at: usize) -> usize
+    ensures { λ r. ⌜ (now (out .exit), r) ≡ (now (out .entry), at) ▹ text.dated time d ⌝ }
+{
     bench_row::fill(
         b" # (#-##-## ##:##:## UTC)\n",
         &[
@@ -121,7 +128,7 @@ pub fn write_time(level: u8, time: u32, out: &mut [u8], at: usize) -> usize
             d.second % 10,
         ],
         out,
-        next,
+        at,
     )
 }
 

@@ -1,19 +1,15 @@
--- The name, and then the form with the date's digits.
+-- The name, and then the seconds and their date.
 use Rattle.bench_page.proofs.Laws.{joined}
 use Rattle.visit_text.specs.Text.{time}
 use borrow.Author.Needs.{needs}
-use native.Mathlib.Omega.{arith}
 use Rattle.visit_text.proofs.write_time.Statement.{statement}
 use Rattle.visit_text.proofs.write_time.Tie as tie
-
-same-length : tie.Need-same-length
-same-length c = omega (arith, c .before .before .fill .kept .1 .1 .0, c .before .before .before .before .before .before .before .before .before .before .before .before .before .before .before .before .before .before .before .write-name .kept .1 .1 .0)
 
 returns : tie.Need-returns
 unfolding time
 returns c =
-    let d = c .before .before .before .before .before .before .before .before .before .before .before .before .before .before .before .before in
-    joined _ _ _ (d .before .before .before .write-name .ensures) (rw (d .date .ensures) at (c .before .before .fill .ensures))
+    let d = c .before .before .before .before in
+    joined _ _ _ (d .before .before .before .write-name .ensures) (rw (d .date .ensures) at (c .before .before .write-date .ensures))
 
 pub write-time-spec : {M : Type 1} → statement M
 write-time-spec =
@@ -22,8 +18,6 @@ write-time-spec =
     (λ c. search needs)
     (λ c κs. tt)
     (λ c κs. tt)
-    (λ c. search needs)
-    (λ c. search needs)
     (λ c κs. tt)
-    same-length
+    (λ c. search needs)
     returns)

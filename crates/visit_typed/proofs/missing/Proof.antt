@@ -15,11 +15,15 @@ returns-2 c = rw (← c .before .before .before .before .before .rest .ensures, 
 
 returns-3 : tie.Need-returns-3
 unfolding missing
-returns-3 c = rw (← c .before .before .before .before .before .before .rest .ensures, ← c .before .before .before .before .before .number .ensures, c .before .before .before .n .given .1) (search cases)
+returns-3 c =
+    let n = c .before .before .before in
+    rw (← n .before .before .before .rest .ensures, ← n .before .before .number .ensures, n .n .given .1) (search cases)
 
 returns-4 : tie.Need-returns-4
 unfolding missing
-returns-4 c = rw (← c .before .before .before .before .before .before .rest .ensures, ← c .before .before .before .before .before .number .ensures, c .before .before .before .n .given .1) (search cases)
+returns-4 c =
+    let n = c .before .before .before in
+    rw (← n .before .before .before .rest .ensures, ← n .before .before .number .ensures, n .n .given .1) (search cases)
 
 pub missing-spec : {M : Type 1} → statement M
 missing-spec =
