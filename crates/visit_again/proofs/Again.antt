@@ -1,5 +1,5 @@
 -- A number's digits are a decimal by themselves.
-use Prim.Native.Nat.{ℕ, zero, suc, _+_, _≤_, _<_}
+use Prim.Native.Nat.{ℕ, _+_, _≤_, _<_}
 use native.Mathlib.Omega.{arith}
 use borrow.Author.Tests.{le-ltb, le-leb, eq-eqb}
 use mathlib.Core.List.{List, [], _++_, append-nil}
@@ -9,10 +9,10 @@ use Rattle.bench_page.specs.Page.{letters}
 use Rattle.bench_page.specs.Digits.{decimal, spelled}
 use Rattle.visit_typed.specs.declared.Typed.the-variants.{Value, Missing}
 use Rattle.visit_typed.specs.declared.Decimal.the-variants.{Number}
-use Rattle.visit_typed.specs.declared.digits.Digits.{Digits}
 use Rattle.visit_typed.specs.Typed.{digitsOn, isDecimal, number, time, missing}
 use Rattle.visit_again.specs.Again.{ReadAgain}
 use Rattle.visit_again.proofs.Digits.{bound, read-spelled, how-long}
+use Rattle.visit_again.proofs.Degrees.{warm-or-cold}
 
 whole : (n : ℕ) → n < bound 9 → digitsOn 0 (spelled 19 n) 0 ≡ record { value = n; end = length (spelled 19 n) }
 unfolding digitsOn
@@ -38,4 +38,4 @@ unfolding missing
 lost n h l = rw (numbered n (omega arith), le-ltb n 10 h, le-ltb 14 n l)
 
 pub read-again : ReadAgain
-read-again = record { time = timed; missing = lost }
+read-again = record { time = timed; temperature = warm-or-cold; missing = lost }

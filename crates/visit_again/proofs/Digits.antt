@@ -16,23 +16,23 @@ abbrev pub bound : ℕ → ℕ
 bound zero = 10
 bound (suc more) = 10 * bound more
 
-by-size : (n : ℕ) {P : Type 0} → (n < 10 → P) → (10 ≤ n → P) → P
+pub by-size : (n : ℕ) {P : Type 0} → (n < 10 → P) → (10 ≤ n → P) → P
 by-size n {P} few many = by (ltb n 10) refl
   where
     by : (b : Bool) → ltb n 10 ≡ b → P
     by true e = few (ltb-true n 10 e)
     by false e = many (ltb-false n 10 e)
 
-one-digit : (more n : ℕ) → n < 10 → spelled more n ≡ lastDigit n ∷ []
+pub one-digit : (more n : ℕ) → n < 10 → spelled more n ≡ lastDigit n ∷ []
 unfolding spelled
 one-digit zero n h = refl
 one-digit (suc more) n h = rw (lt-ltb n 10 h)
 
-more-digits : (more n : ℕ) → 10 ≤ n → spelled (suc more) n ≡ spelled more (n / 10) ++ lastDigit n ∷ []
+pub more-digits : (more n : ℕ) → 10 ≤ n → spelled (suc more) n ≡ spelled more (n / 10) ++ lastDigit n ∷ []
 unfolding spelled
 more-digits more n h = rw (le-ltb n 10 h)
 
-digit-of : (d : ℕ) → d < 10 → digit (48 + d) ≡ d
+pub digit-of : (d : ℕ) → d < 10 → digit (48 + d) ≡ d
 unfolding digit
 digit-of d h =
     let low : 48 ≤ 48 + d = omega arith in

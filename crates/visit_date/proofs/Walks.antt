@@ -1,9 +1,8 @@
 -- A walk over years or months, one step on: the rest of the walk from where it has come is the whole walk.
 use Prim.Native.Nat.{ℕ, zero, suc, _+_, _-_, _≤_, _<_}
 use native.Mathlib.Omega.{arith}
-use native.Mathlib.Numerals.{add-one}
 use borrow.Author.Tests.{lt-ltb, le-ltb}
-use mathlib.Core.Path.{_≡_, refl, sym, _∙_}
+use mathlib.Core.Path.{_≡_}
 use Rattle.visit_date.specs.declared.Walked.{Walked}
 use Rattle.visit_date.specs.Dates.{walk}
 

@@ -1,6 +1,5 @@
 -- Dates by the definitions.
 use mathlib.Core.Path.{_≡_, refl}
-use Rattle.visit_date.specs.declared.Moment.{Moment}
 use Rattle.visit_date.specs.Dates.{isLeap, yearDays, monthDays, walk, date}
 
 pub first : date 0 ≡ record { year = 1970; month = 1; day = 1; hour = 0; minute = 0; second = 0 }

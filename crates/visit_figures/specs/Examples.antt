@@ -1,5 +1,5 @@
 -- Values as text, by the definitions.
-use mathlib.Core.List.{[], _∷_, _++_}
+use mathlib.Core.List.{_∷_, _++_}
 use mathlib.Core.Path.{_≡_, refl}
 use Rattle.bench_page.specs.Page.{letters}
 use Rattle.bench_page.specs.Digits as spelt

@@ -1,6 +1,6 @@
 -- A line's end, and the lines of an answer and of a slot, one text after another.
 use Prim.Native.Nat.{ℕ}
-use mathlib.Core.List.{List, [], _∷_, _++_}
+use mathlib.Core.List.{List, _++_}
 use mathlib.Core.Path.{_≡_}
 use Rattle.bench_page.specs.Page.{Page, writtenByte, written}
 use Rattle.bench_page.proofs.Laws.{joined}

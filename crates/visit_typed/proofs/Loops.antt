@@ -10,7 +10,6 @@ use lib.ListN.{length, getD, drop, drop-of-length-le}
 use Rattle.laws.specs.Rest.{rest}
 use Rattle.visit_typed.specs.declared.digits.Digits.{Digits}
 use Rattle.visit_typed.specs.Same.{same, sameOn}
-use Rattle.visit_typed.specs.declared.amounts.Amount.{Amount}
 use Rattle.visit_typed.specs.Typed.{digit, withDigit, digitsOn, digitAt, past, partOn, isDecimal, isPoint, amount}
 
 module _ (text : List ℕ) (value at d : ℕ) (whole : Digits) (h : at < length text) (e : d ≡ digit (getD text at 0)) (inv : digitsOn value (drop at text) at ≡ whole) where

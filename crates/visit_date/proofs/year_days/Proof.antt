@@ -1,7 +1,6 @@
 -- The test of the definition.
 use Rattle.laws.specs.Cases.{cases}
 use Rattle.visit_date.specs.Dates.{yearDays}
-use borrow.Author.Needs.{needs}
 use Rattle.visit_date.proofs.year_days.Statement.{statement}
 use Rattle.visit_date.proofs.year_days.Tie as tie
 

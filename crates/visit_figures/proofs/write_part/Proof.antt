@@ -1,5 +1,5 @@
 -- Long division as the definition goes; the decimals that may still come are the measure.
-use Prim.Native.Nat.{_≤_, _<_}
+use Prim.Native.Nat.{_<_}
 use Rattle.bench_page.specs.Page.{written}
 use Rattle.visit_figures.proofs.Laws.{ended, stopped, onward}
 use Rattle.visit_figures.specs.Figures.{decimals}

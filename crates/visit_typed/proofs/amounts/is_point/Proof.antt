@@ -3,9 +3,7 @@ use Prim.Native.Nat.{ℕ}
 use Rattle.laws.specs.Cases.{cases}
 use Rattle.visit_typed.specs.Typed.{isPoint}
 use borrow.Author.Needs.{needs}
-use lib.Dec.{T}
-use mathlib.Core.Bool.{true, false}
-use mathlib.Core.Path.{_≡_, subst}
+use mathlib.Core.Path.{_≡_}
 use native.Mathlib.Omega.{arith}
 use Rattle.visit_typed.proofs.amounts.is_point.Statement.{statement}
 use Rattle.visit_typed.proofs.amounts.is_point.Tie as tie
