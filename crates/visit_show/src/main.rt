@@ -15,7 +15,7 @@ struct Shown {
 }
 
 // Words of a list that holds the steps of every record.
-const WORDS: usize = 131072;
+const WORDS: usize = visit::MOST_STEPS * visit::WORDS;
 
 // The page of 65,536 bytes is written out from here on, which leaves room for the lines of any step.
 const FULL: usize = 60000;

@@ -87,7 +87,7 @@ pub fn write_step(place: Place, step: Step, out: &mut [u8], at: usize) -> usize
 }
 
 // Writes the line of a group of a level: its name and its number.
-pub fn write_group(level: u8, number: u32, out: &mut [u8], at: usize) -> usize
+fn write_group(level: u8, number: u32, out: &mut [u8], at: usize) -> usize
     ensures { λ r. ⌜ (now (out .exit), r) ≡ (now (out .entry), at) ▹ text.group level number ⌝ }
 {
     match level {
@@ -100,7 +100,7 @@ pub fn write_group(level: u8, number: u32, out: &mut [u8], at: usize) -> usize
 }
 
 // Writes a time in a group of a level, with its date.
-pub fn write_time(level: u8, time: u32, out: &mut [u8], at: usize) -> usize
+fn write_time(level: u8, time: u32, out: &mut [u8], at: usize) -> usize
     ensures { λ r. ⌜ (now (out .exit), r) ≡ (now (out .entry), at) ▹ text.time level time ⌝ }
 {
     let next = write_name(level, b"time", out, at);
@@ -133,7 +133,7 @@ fn write_date(time: u32, d: Moment, out: &mut [u8], at: usize) -> usize
 }
 
 // Writes a temperature in a group of a level, or why it is missing.
-pub fn write_temperature(level: u8, answer: Answer, out: &mut [u8], at: usize) -> usize
+fn write_temperature(level: u8, answer: Answer, out: &mut [u8], at: usize) -> usize
     ensures { λ r. ⌜ (now (out .exit), r) ≡ (now (out .entry), at) ▹ text.temperature level answer ⌝ }
 {
     let next = write_name(level, b"temperature ", out, at);
@@ -147,7 +147,7 @@ pub fn write_temperature(level: u8, answer: Answer, out: &mut [u8], at: usize) -
 }
 
 // Writes a pressure in a group of a level, or why it is missing.
-pub fn write_pressure(level: u8, answer: Answer, out: &mut [u8], at: usize) -> usize
+fn write_pressure(level: u8, answer: Answer, out: &mut [u8], at: usize) -> usize
     ensures { λ r. ⌜ (now (out .exit), r) ≡ (now (out .entry), at) ▹ text.pressure level answer ⌝ }
 {
     let next = write_name(level, b"pressure ", out, at);
@@ -161,7 +161,7 @@ pub fn write_pressure(level: u8, answer: Answer, out: &mut [u8], at: usize) -> u
 }
 
 // Writes a humidity in a group of a level, or why it is missing.
-pub fn write_humidity(level: u8, answer: Answer, out: &mut [u8], at: usize) -> usize
+fn write_humidity(level: u8, answer: Answer, out: &mut [u8], at: usize) -> usize
     ensures { λ r. ⌜ (now (out .exit), r) ≡ (now (out .entry), at) ▹ text.humidity level answer ⌝ }
 {
     let next = write_name(level, b"humidity ", out, at);
