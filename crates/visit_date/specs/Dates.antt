@@ -30,6 +30,7 @@ yearOf days = walk yearDays 136 1970 days
 abbrev pub monthOf : Walked → Walked
 monthOf year = walk (monthDays (year .number)) 11 1 (year .left)
 
+-- fewer than 100 days are left of a month, so that the remainder takes nothing away
 abbrev pub dateOf : Walked → Walked → ℕ → Moment
 dateOf year month time =
     record {

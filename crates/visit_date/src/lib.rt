@@ -26,6 +26,7 @@ pub const FIRST_YEAR: u64 = 1970;
 pub const YEARS: u64 = 136;
 
 // The date of a number of seconds since 1970 began.
+// Fewer than 100 days are left of a month, and the remainder lets the sum be seen to fit.
 pub fn date(seconds: u32) -> Moment
     ensures { λ r. ⌜ r ≡ dates.date seconds ⌝ }
 {
