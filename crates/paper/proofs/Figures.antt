@@ -1,4 +1,4 @@
--- The table's numbers run from 0 to 17 in its order, and lengths and limits are what addresses and bits make of them.
+-- The table's numbers run from 0 to 22 in its order, and lengths and limits are what addresses and bits make of them.
 use Prim.Native.Nat.{ℕ, zero, suc, _+_, _-_, _^_}
 use mathlib.Core.List.{List, [], _∷_}
 use mathlib.Core.Path.{_≡_, refl}
@@ -13,8 +13,9 @@ from first (suc n) = first ∷ from (suc first) n
 pub numbers :
     (no.done ∷ no.ignored ∷ no.wrongLength ∷ no.burstIsOpen ∷ no.addressNotAllowed ∷ no.stillCopying
     ∷ no.wrongPhase ∷ no.outOfRange ∷ no.allBegun ∷ no.bufferTooShort ∷ no.skipped ∷ no.noTemperature
-    ∷ no.leftItsType ∷ no.divisorZero ∷ no.pressureOutside ∷ no.pairsOutside ∷ no.wrongShape ∷ no.neverReady ∷ []) ≡
-    from 0 18
+    ∷ no.leftItsType ∷ no.divisorZero ∷ no.pressureOutside ∷ no.pairsOutside ∷ no.wrongShape ∷ no.neverReady
+    ∷ no.cutShort ∷ no.tagOutOfPlace ∷ no.wrongFieldLength ∷ no.tooDeep ∷ no.valueOutside ∷ []) ≡
+    from 0 23
 numbers = refl
 
 -- 0x88 to 0xA1, 0xE1 to 0xE7, 0xF7 to 0xFE
