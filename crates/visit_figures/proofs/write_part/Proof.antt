@@ -11,7 +11,9 @@ use Rattle.visit_figures.proofs.write_part.Statement.{statement}
 use Rattle.visit_figures.proofs.write_part.Tie as tie
 
 abbrev Inv-loop : tie.InvT-loop
-Inv-loop part unit out₀ at left₀ turns₀ next₀ out left turns next = (left < unit) × (length out ≡ length out₀) × (written (decimals turns left unit) (out, next) ≡ written (decimals 10 part unit) (out₀, at))
+Inv-loop part unit out₀ at left₀ turns₀ next₀ out left turns next =
+    (left < unit) × (length out ≡ length out₀)
+    × (written (decimals turns left unit) (out, next) ≡ written (decimals 10 part unit) (out₀, at))
 
 abbrev μ-loop : tie.MeasureT-loop
 μ-loop part unit out₀ at left₀ turns₀ next₀ out left turns next = turns
