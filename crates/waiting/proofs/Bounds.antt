@@ -1,18 +1,17 @@
 -- How large a code, its samples and the figures can be.
-use Prim.Native.Nat.{ℕ, zero, suc, _*_, _≤_}
+use Prim.Native.Nat.{ℕ, _*_, _≤_}
 use native.Mathlib.Nat.{mul-le-mul}
 use native.Mathlib.Omega.{arith}
-use mathlib.Core.Bool.{Bool, true, false, not, _&&_}
-use mathlib.Core.List.{List, [], _∷_}
+use mathlib.Core.Bool.{Bool, false, not, _&&_}
 use mathlib.Core.Path.{_≡_, refl, sym, _∙_}
 use lib.Dec.{leb}
-use lib.ListN.{getD}
 use borrow.Author.Tests.{leb-true, not-false}
 use Rattle.laws.specs.Tests.{both}
 use Rattle.paper.specs.Registers as reg
 use Rattle.waiting.specs.declared.Estimate.{Estimate}
 use Rattle.waiting.specs.declared.Estimate.the-variants.{Maximum, Typical}
-use Rattle.waiting.specs.Waiting.{samplesByCode, samples, figures}
+use Rattle.waiting.specs.Waiting.{samples, figures}
+use Rattle.waiting.proofs.EveryCode.{at-code}
 
 -- what a test of three codes, called with result r, has shown
 pub codes : (t p h : ℕ) {r : Bool} → r ≡ reg.areCodes t p h → not r ≡ false → (t ≤ reg.lastCode) × (p ≤ reg.lastCode) × (h ≤ reg.lastCode)
@@ -21,22 +20,12 @@ codes t p h {r} e n =
     let (b, d) = both (reg.isCode p) (reg.isCode h) rest in
     (leb-true t reg.lastCode a, leb-true p reg.lastCode b, leb-true h reg.lastCode d)
 
-allWithin : ℕ → List ℕ → Bool
-allWithin n [] = true
-allWithin n (x ∷ l) = leb x n && allWithin n l
+most-samples : (code : ℕ) → code ≤ reg.lastCode → samples code ≤ 16
+unfolding samples
+most-samples code h = leb-true (samples code) 16 (at-code (λ k. leb (samples k) 16) refl code h)
 
-within : (n : ℕ) (l : List ℕ) (k : ℕ) → allWithin n l ≡ true → getD l k 0 ≤ n
-unfolding allWithin
-within n [] k e = omega arith
-within n (x ∷ l) zero e = leb-true x n (both (leb x n) (allWithin n l) e .0)
-within n (x ∷ l) (suc k) e = within n l k (both (leb x n) (allWithin n l) e .1)
-
-most-samples : (code : ℕ) → samples code ≤ 16
-unfolding samples allWithin
-most-samples code = within 16 samplesByCode code refl
-
-pub most-product : (code sample n : ℕ) → n ≡ samples code → sample ≤ 10000 → n * sample ≤ 160000
-most-product code sample n e h = let g : n ≤ 16 = rw e (most-samples code) in omega (arith, mul-le-mul g h)
+pub most-product : (code sample n : ℕ) → n ≡ samples code → code ≤ reg.lastCode → sample ≤ 10000 → n * sample ≤ 160000
+most-product code sample n e c h = let g : n ≤ 16 = rw e (most-samples code c) in omega (arith, mul-le-mul g h)
 
 pub most-figures : (estimate : Estimate) → (figures estimate .base ≤ 10000) × (figures estimate .sample ≤ 10000) × (figures estimate .extra ≤ 10000)
 most-figures Maximum = (omega arith, omega arith, omega arith)

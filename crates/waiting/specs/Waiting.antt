@@ -2,8 +2,7 @@
 use Prim.Native.Nat.{ℕ, _+_, _*_}
 use lib.Dec.{eqb}
 use mathlib.Core.Bool.{cond}
-use mathlib.Core.List.{List, [], _∷_}
-use lib.ListN.{getD}
+use mathlib.Core.List.{[], _∷_}
 use Rattle.paper.specs.Numbers as no
 use Rattle.paper.specs.Registers as reg
 use Rattle.paper.specs.Answers.{Answer, given, refused}
@@ -14,11 +13,13 @@ use Rattle.waiting.specs.declared.Wait.{Wait}
 use Rattle.waiting.specs.declared.Wait.the-variants.{Microseconds, Refused}
 
 -- codes 0 to 4 mean 0, 1, 2, 4, 8 samples; 5 to 7 mean 16
-abbrev pub samplesByCode : List ℕ
-samplesByCode = 0 ∷ 1 ∷ 2 ∷ 4 ∷ 8 ∷ 16 ∷ 16 ∷ 16 ∷ []
-
 unfoldable pub samples : ℕ → ℕ
-samples code = getD samplesByCode code 0
+samples code =
+    cond (eqb code 0) 0
+    (cond (eqb code 1) 1
+    (cond (eqb code 2) 2
+    (cond (eqb code 3) 4
+    (cond (eqb code 4) 8 16))))
 
 -- the base, each sample, and what pressure or humidity takes more if it has any
 abbrev pub maximum : Figures

@@ -7,7 +7,7 @@ use crate::Estimate;
 use crate::Figures;
 
 // The samples that each code means.
-const SAMPLES: [u32; 8] = [0, 1, 2, 4, 8, 16, 16, 16];
+const SAMPLES: [u8; 8] = [0, 1, 2, 4, 8, 16, 16, 16];
 
 // The figures of the estimate.
 pub(crate) fn figures_of(estimate: Estimate) -> Figures
@@ -28,7 +28,7 @@ pub(crate) fn figures_of(estimate: Estimate) -> Figures
 }
 
 // The samples that a code of 0 to 7 means.
-fn samples(code: u8) -> u32
+fn samples(code: u8) -> u8
     requires { ⌜ code ≤ reg.lastCode ⌝ }
     ensures { λ r. ⌜ r ≡ samplesOf code ⌝ }
 {
@@ -44,7 +44,7 @@ fn channel_part(sample: u32, extra: u32, code: u8) -> u32
     if n == 0 {
         return 0;
     }
-    n * sample + extra
+    (n as u32) * sample + extra
 }
 
 // The sum by the given figures, none of them above 10000, at codes of 0 to 7.

@@ -13,19 +13,19 @@ returns c = (rw (← c .before .samples .ensures) (search cases), omega arith)
 
 mul-result : tie.Need-mul-result
 mul-result c =
-    let p = most-product _ _ _ (c .before .samples .ensures) (c .before .before .pre .0) in
+    let p = most-product _ _ _ (c .before .samples .ensures) (c .before .before .pre .2) (c .before .before .pre .0) in
     record { fits = omega arith }
 
 add-result : tie.Need-add-result
 add-result c =
-    let p = most-product _ _ _ (c .before .samples .ensures) (c .before .before .pre .0) in
+    let p = most-product _ _ _ (c .before .samples .ensures) (c .before .before .pre .2) (c .before .before .pre .0) in
     record { fits = omega arith }
 
 returns-2 : tie.Need-returns-2
 unfolding channelPart
 returns-2 c =
-    let p = most-product _ _ _ (c .before .samples .ensures) (c .before .before .pre .0) in
+    let p = most-product _ _ _ (c .before .samples .ensures) (c .before .before .pre .2) (c .before .before .pre .0) in
     (rw (← c .before .samples .ensures) (search cases), omega arith)
 
 pub channel-part-spec : {M : Type 1} → statement M
-channel-part-spec = tie.close (tie.spec (λ c κs. search needs) returns mul-result add-result returns-2)
+channel-part-spec = tie.close (tie.spec (λ c κs. search needs) returns (λ c. search needs) mul-result add-result returns-2)
