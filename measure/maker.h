@@ -22,3 +22,6 @@ void maker_readings(const struct maker_words *restrict w, const uint8_t *restric
 
 // One reading from the raw blocks.
 void maker_reading(const uint8_t *restrict one, const uint8_t *restrict two, const uint8_t *restrict data, int64_t *restrict told);
+
+// The microseconds that a conversion with these oversampling codes takes at most.
+void maker_wait(uint8_t t, uint8_t p, uint8_t h, uint32_t *microseconds);

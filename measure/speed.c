@@ -2,10 +2,12 @@
 //   speed library|maker blocks|words real|junk ROUNDS    the readings ROUNDS times over
 //   speed compare blocks|words real|junk                 both once: how many channels agree, how many the library refused
 //   speed library cycle ROUNDS                           the machine's forced cycles ROUNDS times over
-// A round is 1,440 readings, a day with one a minute, or as many cycles. blocks: each reading is a call from the raw blocks,
-// onegrish_compensate beside a function of the C's that decodes too; words: the words are decoded before the first round, and each
-// reading is a call of onegrish_compensate_words beside a turn of the C's loop. All that a round reads is made before the first, so
-// that the difference of two runs is the rounds' own work.
+//   speed library|maker wait ROUNDS                      the longest wait at each triple of codes, ROUNDS times over
+//   speed compare wait                                   both once: how many waits agree
+// A round is 1,440 readings, a day with one a minute, or as many cycles, or the 512 triples of codes from 0 to 7. blocks: each reading
+// is a call from the raw blocks, onegrish_compensate beside a function of the C's that decodes too; words: the words are decoded before
+// the first round, and each reading is a call of onegrish_compensate_words beside a turn of the C's loop. All that a round reads is made
+// before the first, so that the difference of two runs is the rounds' own work.
 #include "maker.h"
 #include <onegrish.h>
 #include <stdio.h>
@@ -16,12 +18,13 @@ int atoi(const char *);
 // The machine's cycles, of crates/measure_cycles. A slice is a pointer and a length.
 uint8_t speed_cycles(uint32_t n, uint8_t f4, uint32_t t, uint32_t p, uint32_t h, uint8_t *lent, size_t);
 
-enum { READINGS = 1440 };
+enum { READINGS = 1440, TRIPLES = 512 };
 static uint8_t one[READINGS][26], two[READINGS][7], data[READINGS][8];
 static uint8_t numbers[READINGS][3];
 static int64_t values[READINGS][4], by_maker[READINGS * 3];
 static int16_t words[ONEGRISH_WORDS];
 static struct maker_words decoded;
+static uint32_t waits[TRIPLES], waits_by_maker[TRIPLES];
 
 // T1 to P9 are the bench sheet's, H1 to H6 those of a usual chip: 75, 362, 0, 313, 50, 30.
 static const uint8_t CHIP_ONE[26] = {
@@ -95,6 +98,25 @@ static int run_cycles(int rounds) {
     return rounds > 0 && __builtin_memcmp(lent, laid, 8) != 0;
 }
 
+static void library_waits(void) {
+    for (uint32_t i = 0; i < TRIPLES; i++)
+        onegrish_maximum_wait(i & 7, i >> 3 & 7, i >> 6, waits + i);
+}
+
+static void maker_waits(void) {
+    for (uint32_t i = 0; i < TRIPLES; i++)
+        maker_wait(i & 7, i >> 3 & 7, i >> 6, waits_by_maker + i);
+}
+
+static int compare_waits(void) {
+    int same = 0;
+    library_waits();
+    maker_waits();
+    for (int i = 0; i < TRIPLES; i++) same += waits[i] == waits_by_maker[i];
+    printf("%d waits agree, %d apart\n", same, TRIPLES - same);
+    return same != TRIPLES;
+}
+
 static int compare(void (*library)(void), void (*maker)(void)) {
     static const int places[3] = {ONEGRISH_VALUE_T, ONEGRISH_VALUE_P, ONEGRISH_VALUE_H};
     int same = 0, refused = 0, apart = 0;
@@ -114,8 +136,15 @@ static int compare(void (*library)(void), void (*maker)(void)) {
 int main(int argc, char **argv) {
     if (argc == 4 && !strcmp(argv[2], "cycle"))
         return run_cycles(atoi(argv[3]));
+    if (argc == 3 && !strcmp(argv[1], "compare") && !strcmp(argv[2], "wait"))
+        return compare_waits();
+    if (argc == 4 && !strcmp(argv[2], "wait")) {
+        for (int i = atoi(argv[3]); i > 0; i--)
+            (strcmp(argv[1], "maker") ? library_waits : maker_waits)();
+        return 0;
+    }
     if (argc < 4) {
-        printf("usage: speed library|maker|compare blocks|words real|junk [ROUNDS]\n");
+        printf("usage: speed library|maker|compare blocks|words real|junk [ROUNDS], speed library|maker wait ROUNDS, speed compare wait\n");
         return 2;
     }
     int kept = !strcmp(argv[2], "words");
