@@ -2,7 +2,7 @@
 use crate::Pack;
 use bench_bytes::rest;
 use visit::Step;
-use visit_text::Place;
+use visit_place::Place;
 use visit_typed::Decimal;
 
 // A count grows up to here, which is more than a text has lines and a record has steps.
@@ -57,7 +57,7 @@ fn fault(pack: Pack, level: u8, name: u8) -> u8 {
 fn lay(mut pack: Pack, step: Step, steps: &mut [u32]) -> Pack {
     visit_step::lay(step, pack.steps, steps);
     pack.steps = one_more(pack.steps);
-    let place = visit_text::after(pack.place, step);
+    let place = visit_place::after(pack.place, step);
     pack.place = place;
     pack
 }
@@ -97,7 +97,7 @@ fn open(pack: Pack, level: u8, text: &[u8], steps: &mut [u32]) -> Pack {
     let mut opened = lay(closed, Step::Open, steps);
     opened.groups = false;
     opened.fields = 0;
-    if !is_number(text, visit_text::number(opened.place)) {
+    if !is_number(text, visit_place::number(opened.place)) {
         opened.fault = 6;
     }
     opened

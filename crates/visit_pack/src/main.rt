@@ -9,7 +9,7 @@ use bench_bytes::rest;
 use libc::STDERR_FILENO;
 use libc::STDOUT_FILENO;
 use visit_input::Input;
-use visit_text::Place;
+use visit_place::Place;
 use visit_write::Written;
 
 // What is kept from line to line.
@@ -35,7 +35,7 @@ const STEPS: usize = 16384;
 
 // Nothing is read yet.
 fn nothing() -> Pack {
-    let place = visit_text::start();
+    let place = visit_place::start();
     Pack {
         lines: 0,
         steps: 0,

@@ -40,7 +40,7 @@ fn make_room(shown: Shown, page: &[u8]) -> Shown {
 
 // Writes the lines of so many steps.
 fn write_steps(steps: &[u32], count: usize, page: &mut [u8]) -> Shown {
-    let mut place = visit_text::start();
+    let mut place = visit_place::start();
     let mut shown = Shown {
         at: 0,
         written: true,
@@ -49,7 +49,7 @@ fn write_steps(steps: &[u32], count: usize, page: &mut [u8]) -> Shown {
     while k < count {
         shown = make_room(shown, page);
         let step = visit_step::step_at(steps, k);
-        place = visit_text::after(place, step);
+        place = visit_place::after(place, step);
         shown.at = visit_text::write_step(place, step, page, shown.at);
         k += 1;
     }

@@ -7,6 +7,7 @@ use Rattle.visit.specs.declared.Step.{Step}
 use Rattle.visit.specs.declared.Step.the-variants.{Open as opened, Slot as slot, Close as closed}
 use Rattle.visit_date.specs.Dates as dates
 use Rattle.visit_figures.specs.Figures as figures
+use Rattle.visit_place.specs.Places as place
 use Rattle.bench_page.specs.Page.{letters}
 use Rattle.bench_page.specs.Digits as spelt
 use Rattle.bench_row.specs.Row.{filledFrom}
@@ -28,7 +29,7 @@ pub as-text :
     (line (letters "    temperature -0.05 " ++ (0xC2 ∷ 0xB0 ∷ letters "C"))
     (line (letters "    pressure 0 Pa")
     (line (letters "    humidity missing 10 (channel skipped)") [])))))
-unfolding shown.textFrom shown.start shown.after shown.deeper shown.back shown.oneMore shown.number shown.lines shown.group shown.groupForm shown.named
+unfolding shown.textFrom place.start place.after place.deeper place.back place.oneMore place.number shown.lines shown.group shown.groupForm shown.named
     shown.time shown.missing shown.temperature shown.pressure shown.humidity figures.temperature figures.hundredths figures.pressure figures.humidity figures.amount figures.decimals figures.missing
     figures.reason dates.date dates.walk dates.yearDays dates.monthDays dates.isLeap filledFrom spelt.decimal spelt.spelled
 as-text = refl

@@ -1,14 +1,15 @@
 -- A visit as text, step by step. A group's line has its name and its number among its brothers; a slot has four lines, one level deeper.
-use Prim.Native.Nat.{ℕ, _+_, _-_, _*_, _/_, _%_}
+use Prim.Native.Nat.{ℕ, _*_, _/_, _%_}
 use mathlib.Core.Bool.{cond}
 use mathlib.Core.List.{List, [], _∷_, _++_}
-use lib.Dec.{eqb, ltb}
+use lib.Dec.{eqb}
 use lib.ListN.{take}
 use Rattle.visit.specs.declared.Answer.{Answer}
 use Rattle.visit.specs.declared.Answer.the-variants.{Value as value, Missing as gone}
 use Rattle.visit.specs.declared.Step.{Step}
 use Rattle.visit.specs.declared.Step.the-variants.{Open as opened, Slot as slot, Close as closed, Stray as stray}
-use Rattle.visit_text.specs.declared.Place.{Place}
+use Rattle.visit_place.specs.Places.{start, after, number}
+use Rattle.visit_place.specs.declared.Place.{Place}
 use Rattle.visit_date.specs.Dates.{date}
 use Rattle.visit_date.specs.declared.Moment.{Moment}
 use Rattle.visit_figures.specs.Figures as figures
@@ -64,50 +65,6 @@ pressure level a = named level (letters "pressure ") ++ answer figures.pressure 
 
 unfoldable pub humidity : ℕ → Answer → List ℕ
 humidity level a = named level (letters "humidity ") ++ answer figures.humidity a
-
--- ---- where a walk over steps stands
-
-unfoldable pub start : Place
-start = record { level = 0; house = 0; floor = 0; room = 0; reading = 0 }
-
-unfoldable pub oneMore : ℕ → ℕ
-oneMore n = cond (ltb n 65535) (n + 1) n
-
-abbrev inHouse : Place → Place
-inHouse p = record { level = 1; house = oneMore (p .house); floor = 0; room = 0; reading = 0 }
-
-abbrev inFloor : Place → Place
-inFloor p = record { level = 2; house = p .house; floor = oneMore (p .floor); room = 0; reading = 0 }
-
-abbrev inRoom : Place → Place
-inRoom p = record { level = 3; house = p .house; floor = p .floor; room = oneMore (p .room); reading = 0 }
-
-abbrev inReading : Place → Place
-inReading p = record { level = 4; house = p .house; floor = p .floor; room = p .room; reading = oneMore (p .reading) }
-
--- a group more is counted among its brothers, and in it there is none yet
-unfoldable pub deeper : Place → Place
-deeper p =
-    cond (eqb (p .level) 0) (inHouse p)
-    (cond (eqb (p .level) 1) (inFloor p)
-    (cond (eqb (p .level) 2) (inRoom p)
-    (cond (eqb (p .level) 3) (inReading p) p)))
-
-unfoldable pub back : Place → Place
-back p = record { level = p .level - 1; house = p .house; floor = p .floor; room = p .room; reading = p .reading }
-
-unfoldable pub number : Place → ℕ
-number p =
-    cond (eqb (p .level) 1) (p .house)
-    (cond (eqb (p .level) 2) (p .floor)
-    (cond (eqb (p .level) 3) (p .room)
-    (cond (eqb (p .level) 4) (p .reading) 0)))
-
-unfoldable pub after : Place → Step → Place
-after p opened = deeper p
-after p (slot t a b c) = p
-after p closed = back p
-after p stray = p
 
 -- ---- the lines of a step, where the walk stands at a place after it
 

@@ -1,67 +1,11 @@
 // A visit as text: a line for each group with its name and number, and four lines for each slot.
 ghost use mathlib.Core.Path.{_≡_};
-ghost use Prim.Native.Nat.{_*_};
 ghost use Rattle.bench_page.specs.Page.{_▹_};
 ghost use Rattle.visit_text.specs.Text as text;
-
-mod places;
-
 use visit::Answer;
 use visit::Step;
 use visit_date::Moment;
-
-// Where a walk over steps stands: how many groups are open, and how many groups of each level the one around them has so far.
-pub struct Place {
-    pub level: u8,
-    pub house: u32,
-    pub floor: u32,
-    pub room: u32,
-    pub reading: u32,
-}
-
-// Before the first step.
-pub fn start() -> Place
-    ensures { λ r. ⌜ r ≡ text.start ⌝ }
-{
-    Place {
-        level: 0,
-        house: 0,
-        floor: 0,
-        room: 0,
-        reading: 0,
-    }
-}
-
-// Where the walk stands after a step.
-pub fn after(place: Place, step: Step) -> Place
-    ensures { λ r. ⌜ r ≡ text.after place step ⌝ }
-{
-    match step {
-        Step::Open => return places::deeper(place),
-        Step::Close => return places::back(place),
-        Step::Slot {
-            time: _,
-            temperature: _,
-            pressure: _,
-            humidity: _,
-        } => return place,
-        Step::Stray => return place,
-    }
-}
-
-// The number of the innermost open group among its brothers.
-pub fn number(place: Place) -> u32
-    ensures { λ r. ⌜ r ≡ text.number place ⌝ }
-{
-    let level = place.level;
-    match level {
-        1 => return place.house,
-        2 => return place.floor,
-        3 => return place.room,
-        4 => return place.reading,
-        _ => return 0,
-    }
-}
+use visit_place::Place;
 
 // Writes the lines of a step, where the walk stands at a place after it.
 // A close and a stray step have none.
@@ -69,7 +13,7 @@ pub fn write_step(place: Place, step: Step, out: &mut [u8], at: usize) -> usize
     ensures { λ r. ⌜ (now (out .exit), r) ≡ (now (out .entry), at) ▹ text.lines place step ⌝ }
 {
     match step {
-        Step::Open => return write_group(place.level, number(place), out, at),
+        Step::Open => return write_group(place.level, visit_place::number(place), out, at),
         Step::Slot {
             time,
             temperature,

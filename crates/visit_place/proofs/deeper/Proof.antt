@@ -1,8 +1,8 @@
 -- The cases of the definition.
-use Rattle.visit_text.specs.Text.{deeper}
+use Rattle.visit_place.specs.Places.{deeper}
 use borrow.Author.Tests.{ne-eqb}
-use Rattle.visit_text.proofs.places.deeper.Statement.{statement}
-use Rattle.visit_text.proofs.places.deeper.Tie as tie
+use Rattle.visit_place.proofs.deeper.Statement.{statement}
+use Rattle.visit_place.proofs.deeper.Tie as tie
 
 returns : tie.Need-returns
 unfolding deeper

@@ -1,8 +1,8 @@
 -- As the definition says.
-use Rattle.visit_text.specs.Text.{start}
+use Rattle.visit_place.specs.Places.{start}
 use mathlib.Core.Path.{refl}
-use Rattle.visit_text.proofs.start.Statement.{statement}
-use Rattle.visit_text.proofs.start.Tie as tie
+use Rattle.visit_place.proofs.start.Statement.{statement}
+use Rattle.visit_place.proofs.start.Tie as tie
 
 returns : tie.Need-returns
 unfolding start

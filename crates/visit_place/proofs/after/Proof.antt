@@ -1,8 +1,8 @@
 -- The cases of the definition.
-use Rattle.visit_text.specs.Text.{after}
+use Rattle.visit_place.specs.Places.{after}
 use borrow.Author.Needs.{needs}
-use Rattle.visit_text.proofs.after.Statement.{statement}
-use Rattle.visit_text.proofs.after.Tie as tie
+use Rattle.visit_place.proofs.after.Statement.{statement}
+use Rattle.visit_place.proofs.after.Tie as tie
 
 returns : tie.Need-returns
 unfolding after

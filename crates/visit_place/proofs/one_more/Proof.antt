@@ -1,9 +1,9 @@
 -- The test of the definition.
 use Rattle.laws.specs.Cases.{cases}
-use Rattle.visit_text.specs.Text.{oneMore}
+use Rattle.visit_place.specs.Places.{oneMore}
 use borrow.Author.Needs.{needs}
-use Rattle.visit_text.proofs.places.one_more.Statement.{statement}
-use Rattle.visit_text.proofs.places.one_more.Tie as tie
+use Rattle.visit_place.proofs.one_more.Statement.{statement}
+use Rattle.visit_place.proofs.one_more.Tie as tie
 
 returns : tie.Need-returns
 unfolding oneMore

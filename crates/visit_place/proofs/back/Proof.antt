@@ -1,11 +1,11 @@
 -- A level less, where there is one.
 use Prim.Native.Nat.{_-_}
-use Rattle.visit_text.specs.Text.{back}
+use Rattle.visit_place.specs.Places.{back}
 use borrow.Author.Needs.{needs}
 use mathlib.Core.Path.{_≡_, refl}
 use native.Mathlib.Omega.{arith}
-use Rattle.visit_text.proofs.places.back.Statement.{statement}
-use Rattle.visit_text.proofs.places.back.Tie as tie
+use Rattle.visit_place.proofs.back.Statement.{statement}
+use Rattle.visit_place.proofs.back.Tie as tie
 
 returns : tie.Need-returns
 unfolding back

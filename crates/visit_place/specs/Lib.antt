@@ -1,0 +1,2 @@
+-- Where a walk over steps stands.
+pub mod Places
