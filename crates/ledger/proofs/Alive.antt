@@ -35,7 +35,7 @@ use Rattle.ledger.proofs.Laid.{lays}
 use Rattle.ledger.proofs.Kept.{kept}
 use Rattle.ledger.proofs.Theorems.{counts-are-true}
 use Rattle.ledger.proofs.Tests.{passed}
-use Rattle.ledger.proofs.Turn.{begun, controlledBy, mode-runs, write-begins, write-latches, wake-begins, read-from, closes}
+use Rattle.ledger.proofs.Turn.{begun, controlledBy, uncopying, mode-runs, write-begins, write-latches, wake-begins, read-from, closes}
 
 -- ---- the close of a turn
 
@@ -74,7 +74,7 @@ delivers m t f u n b w some space =
       whole-is = refl;
       number-is = refl;
       codes-are = refl;
-      bytes-are = lays (m .device) (t .temperature) (t .pressure) (t .humidity);
+      bytes-are = lays (uncopying m .device) (t .temperature) (t .pressure) (t .humidity);
       not-before = refl;
       begun-is = ap (λ (l : Ledger). l .begun) l ∙ o .0;
       delivered-is = ap (λ (l : Ledger). l .delivered) l ∙ o .1;
@@ -132,7 +132,8 @@ module _ (es : List Event) where
       let e : after now (byWrite t) ≡ r = write-begins now t p idle v l q c b in
       let u : runs (r .device .phase) ≡ true = rw q v in
       record {
-        begins = subst (λ (k : Machine). Begins now k (codesOf t)) (sym e) (record { begun-is = begun-more l; runs-now = u; codes-are = refl });
+        begins = subst (λ (k : Machine). Begins now k (codesOf t)) (sym e)
+            (record { begun-is = begun-more l; runs-now = u; copying-now = rw u; codes-are = refl });
         delivers = subst (λ (k : Machine). let x = closed (after k (measured t)) (t .lent) in Delivers (now .ledger .begun + 1) (now .ledger .delivered + 1) (codesOf t) t (x .0) (x .1))
             (sym e) (turns t r (codesOf t) f u refl b (none-waiting b) refl (begun-more l) refl l);
       }
@@ -158,7 +159,7 @@ module _ (es : List Event) where
       let c-is : now .device .codes ≡ c = ap (λ (d : Device). d .codes) (kept es .device-is) in
       let e : after now byWake ≡ awake now = wake-begins now y l in
       record {
-        begins = subst (λ (k : Machine). Begins now k c) (sym e) (record { begun-is = begun-more l; runs-now = refl; codes-are = c-is });
+        begins = subst (λ (k : Machine). Begins now k c) (sym e) (record { begun-is = begun-more l; runs-now = refl; copying-now = refl; codes-are = c-is });
         delivers = subst (λ (k : Machine). let x = closed (after k (measured t)) (t .lent) in Delivers (now .ledger .begun + 1) (now .ledger .delivered + 1) c t (x .0) (x .1))
             (sym e) (turns t (awake now) c f refl (none-held (ap runs y)) o (none-waiting o) c-is (begun-more l) refl l);
       }
@@ -178,7 +179,7 @@ module _ (es : List Event) where
       record {
         stands-by = ap (λ (k : Machine). k .device .phase) k-is ∙ stands-by;
         none-begins = ap (λ (k : Machine). k .ledger) k-is;
-        begins = subst (λ (k : Machine). Begins now k (codesOf t)) (sym e) (record { begun-is = begun-more l; runs-now = refl; codes-are = refl });
+        begins = subst (λ (k : Machine). Begins now k (codesOf t)) (sym e) (record { begun-is = begun-more l; runs-now = refl; copying-now = refl; codes-are = refl });
         delivers = subst (λ (k : Machine). let x = closed (after k (measured t)) (t .lent) in Delivers (now .ledger .begun + 1) (now .ledger .delivered + 1) (codesOf t) t (x .0) (x .1))
             (sym e) (turns t (awake k) (codesOf t) f refl refl o (none-waiting o) refl (begun-more l) refl l);
       }

@@ -26,9 +26,9 @@ three = Byte ∷ Byte ∷ Byte ∷ []
 abbrev eight : List Event
 eight = three ++ three ++ Byte ∷ Byte ∷ []
 
--- copied, write F4 0x27, finish, wake, open F7, finish, some bytes
+-- copied, write F4 0x27, copied, finish, wake, copied, open F7, finish, some bytes
 abbrev unclosed : List Event → List Event
-unclosed bytes = Copied ∷ Write reg.ctrlMeas 0x27 ∷ Finish 519888 415148 0 ∷ Wake ∷ Open reg.firstData ∷ Finish 1 2 3 ∷ [] ++ bytes
+unclosed bytes = Copied ∷ Write reg.ctrlMeas 0x27 ∷ Copied ∷ Finish 519888 415148 0 ∷ Wake ∷ Copied ∷ Open reg.firstData ∷ Finish 1 2 3 ∷ [] ++ bytes
 
 -- and close
 abbrev measuredTwice : List Event → List Event
@@ -53,7 +53,9 @@ skipped-bytes = refl
 
 -- up to the burst's bytes, the latest first
 abbrev started : List Happening
-started = finished 1 2 3 ∷ opened reg.firstData ∷ began ∷ finished 519888 415148 0 ∷ began ∷ changed (tookF4 0x27) ∷ changed hap.copied ∷ []
+started =
+    finished 1 2 3 ∷ opened reg.firstData ∷ changed hap.copied ∷ began ∷ finished 519888 415148 0
+    ∷ changed hap.copied ∷ began ∷ changed (tookF4 0x27) ∷ changed hap.copied ∷ []
 
 -- ---- K12: number 1 is delivered, and number 2 stands, shown unread
 

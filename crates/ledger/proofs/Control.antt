@@ -1,6 +1,6 @@
 -- The machine's rules for phases are the history's: what F4 makes of them, and what a finish does.
 use Prim.Native.Nat.{ℕ, zero, suc, _-_, _*_, _/_, _%_, _<_}
-use mathlib.Core.Path.{_≡_, refl, ap}
+use mathlib.Core.Path.{_≡_, refl, ap, _∙_}
 use mathlib.Core.Bool.{Bool, true, false, cond, _&&_, _||_, false≢true, true≢false}
 use native.Mathlib.Omega.{arith}
 use lib.Dec.{eqb}
@@ -9,7 +9,7 @@ use Rattle.machine.specs.declared.Phase.the-variants.{Sleep, Forced, Normal, St
 use Rattle.machine.specs.declared.Held.{Held}
 use Rattle.machine.specs.declared.Held.the-variants.{Nothing, Byte}
 use Rattle.machine.specs.declared.Device.{Device}
-use Rattle.machine.specs.Fields.{withHeld, withPhase}
+use Rattle.machine.specs.Fields.{withHeld, withPhase, withCopying}
 use Rattle.machine.specs.State.{runs, sleeps, standsBy}
 use Rattle.machine.specs.Control as control
 use Rattle.machine.specs.Control.{controlled}
@@ -77,6 +77,10 @@ agrees Standby i = four (Agrees Standby)
     (record { begins-is = refl; begun-is = λ e. refl; else-is = λ e. absurd (true≢false e) })
     (record { begins-is = refl; begun-is = λ e. absurd (false≢true e); else-is = λ e. refl })
 
+-- the device goes on in the phase q, and copies if that begins a conversion
+enters-as : (d : Device) {p q : Phase} {b : Bool} → p ≡ q → runs p ≡ b → control.entered p d ≡ withPhase q (withCopying (b || d .copying) d)
+enters-as d e f = rw (f, e)
+
 module _ (d : Device) (v : ℕ) (idle : runs (d .phase) ≡ false) where
   by-mode : Agrees (d .phase) (v % 4)
   by-mode = agrees (d .phase) idle (v % 4) (omega arith)
@@ -85,10 +89,10 @@ module _ (d : Device) (v : ℕ) (idle : runs (d .phase) ≡ false) where
   begins-is = by-mode .begins-is
 
   pub takes-begun : beginsBy (d .phase) v ≡ true → controlled d v ≡ begins (changes (tookF4 v) d)
-  takes-begun e = ap (λ (p : Phase). withPhase p (changes (tookF4 v) d)) (by-mode .begun-is e)
+  takes-begun e = enters-as (changes (tookF4 v) d) (by-mode .begun-is e) (begins-is ∙ e)
 
   pub takes-else : beginsBy (d .phase) v ≡ false → controlled d v ≡ changes (tookF4 v) d
-  takes-else e = ap (λ (p : Phase). withPhase p (changes (tookF4 v) d)) (by-mode .else-is e)
+  takes-else e = enters-as (changes (tookF4 v) d) (by-mode .else-is e) (begins-is ∙ e)
 
 -- ---- a finish
 

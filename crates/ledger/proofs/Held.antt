@@ -28,10 +28,10 @@ use Rattle.ledger.specs.Alive.{Turn, Fits, codesOf, byWrite, byWake, fin
 use Rattle.ledger.specs.Alive.{MayHold, BeginsHeld, LatchesHeld, IsHeld, HeldRunsTruly, HeldLatchRunsTruly}
 use Rattle.ledger.proofs.Tests.{passed}
 use Rattle.ledger.proofs.Tidy.{overwritten-begun, landed-begun}
-use Rattle.ledger.proofs.Turn.{mode-runs, holding, write-holds, wake-begins, landed-with, done-with, lands-shown, finish-takes}
+use Rattle.ledger.proofs.Turn.{mode-runs, uncopying, holding, write-holds, wake-begins, landed-with, done-with, lands-shown, finish-takes}
 use Rattle.ledger.proofs.Control.{runs-is}
 use Rattle.ledger.proofs.Kept.{kept}
-use Rattle.ledger.proofs.Alive.{phase-now, copying-now, closed-now, room-now, none-waiting, turns}
+use Rattle.ledger.proofs.Alive.{phase-now, closed-now, room-now, none-waiting, turns}
 
 overwritten-delivered : (b : Bool) (l : Ledger) → overwrittenIf b l .delivered ≡ l .delivered
 overwritten-delivered true l = refl
@@ -57,25 +57,26 @@ module _ (es : List Event) (s t : Turn) (g : Fits s) (f : Fits t) (a : MayHold (
   room : now .ledger .begun < reg.mostBegun
   room = room-now es (a .has-room)
 
+  -- once it is copied
   abbrev k : Machine
-  k = holding now t
+  k = uncopying (holding now t)
 
-  k-is : after now (byWrite t) ≡ k
-  k-is = write-holds now t running not-held (copying-now es (a .not-copying)) none-open
+  holds : after now (byWrite t) ≡ holding now t
+  holds = write-holds now t running not-held none-open
 
   is-held : IsHeld now t
-  is-held = record { none-begins = ap (λ (k : Machine). k .ledger) k-is; codes-stay = ap (λ (k : Machine). k .device .codes) k-is }
+  is-held = record { none-begins = ap (λ (k : Machine). k .ledger) holds; codes-stay = ap (λ (k : Machine). k .device .codes) holds }
 
   -- after the finish, from a machine j, where one begins (b) or none
   abbrev taken : Bool → Machine → Machine
   taken b j = withDevice (controlled (rested (k .device)) (t .f4)) (withLedger (begunIf b (j .ledger)) j)
 
   begins-from : (j : Machine) → j .ledger .begun ≡ now .ledger .begun → runs (phaseAfter (rested (k .device) .phase) (t .f4)) ≡ true → Begins now (taken true j) (codesOf t)
-  begins-from j e u = record { begun-is = omega (arith, room); runs-now = u; codes-are = held-codes (k .device) t refl }
+  begins-from j e u = record { begun-is = omega (arith, room); runs-now = u; copying-now = rw u; codes-are = held-codes (k .device) t refl }
 
-  finishes : (b : Bool) → runs (phaseAfter (rested (k .device) .phase) (t .f4)) ≡ b → after now (byWrite t ++ finish s ∷ []) ≡ taken b (done-with k s)
+  finishes : (b : Bool) → runs (phaseAfter (rested (k .device) .phase) (t .f4)) ≡ b → after now (byWrite t ++ finish s) ≡ taken b (done-with k s)
   finishes b e =
-      ap (λ (k : Machine). next k (finish s)) k-is ∙ finish-takes k s g running (t .f4) refl b e room
+      ap (λ (k : Machine). after k (finish s)) holds ∙ finish-takes (holding now t) s g running (t .f4) refl b e room
       ∙ ap (taken b) (lands-shown k s none-open)
 
   done-begun : done-with k s .ledger .begun ≡ now .ledger .begun
@@ -98,7 +99,7 @@ module _ (es : List Event) (s t : Turn) (g : Fits s) (f : Fits t) (a : MayHold (
   held-runs-truly q =
       let u : runs (phaseAfter (rested (k .device) .phase) (t .f4)) ≡ true = mode-runs (rested (k .device) .phase) (t .f4) (q .not-sleep) (λ e. rw (phase-now es Forced (q .from-forced e))) in
       let r : Machine = taken true (done-with k s) in
-      let e : after now (byWrite t ++ finish s ∷ []) ≡ r = finishes true u in
+      let e : after now (byWrite t ++ finish s) ≡ r = finishes true u in
       record {
         is-held = is-held;
         begins = subst (λ (k : Machine). Begins now k (codesOf t)) (sym e) (begins-from (done-with k s) done-begun u);
@@ -108,17 +109,17 @@ module _ (es : List Event) (s t : Turn) (g : Fits s) (f : Fits t) (a : MayHold (
             (sym e) (delivers-from r u (held-codes (k .device) t refl) refl refl refl refl);
       }
     where
-      opens : (i : ℕ) → reg.isReadable i ≡ true → next k (Open i) ≡ withBurst (burst.Open i i) k
+      opens : (i : ℕ) → reg.isReadable i ≡ true → next (holding now t) (Open i) ≡ withBurst (burst.Open i i) (holding now t)
       opens i w =
           ap (λ (o : Outcome). o .machine)
-          (passed (isOpen (k .burst)) (answered burstIsOpen k) _ (ap isOpen none-open)
-          ∙ passed (not (reg.isReadable i)) (answered addressNotAllowed k) (answered done (withBurst (burst.Open i i) k)) (ap not w))
+          (passed (isOpen (now .burst)) (answered burstIsOpen (holding now t)) _ (ap isOpen none-open)
+          ∙ passed (not (reg.isReadable i)) (answered addressNotAllowed (holding now t)) (answered done (withBurst (burst.Open i i) (holding now t))) (ap not w))
 
       in-burst : (i : ℕ) → reg.isReadable i ≡ true → runs (phaseAfter (rested (k .device) .phase) (t .f4)) ≡ true
-          → after now (byWrite t ++ Open i ∷ finish s ∷ []) ≡ taken true (landed-with (withBurst (burst.Open i i) k) s)
+          → after now (byWrite t ++ Open i ∷ finish s) ≡ taken true (landed-with (withBurst (burst.Open i i) k) s)
       in-burst i w u =
-          ap (λ (k : Machine). next (next k (Open i)) (finish s)) k-is ∙ ap (λ (k : Machine). next k (finish s)) (opens i w)
-          ∙ finish-takes (withBurst (burst.Open i i) k) s g running (t .f4) refl true u room
+          ap (λ (k : Machine). after (next k (Open i)) (finish s)) holds ∙ ap (λ (k : Machine). after k (finish s)) (opens i w)
+          ∙ finish-takes (withBurst (burst.Open i i) (holding now t)) s g running (t .f4) refl true u room
 
   -- ---- it sets the codes of the next wake
 
@@ -126,13 +127,13 @@ module _ (es : List Event) (s t : Turn) (g : Fits s) (f : Fits t) (a : MayHold (
   held-latch-runs-truly q =
       let p : phaseAfter (rested (k .device) .phase) (t .f4) ≡ Standby = rw (phase-now es Normal (q .from-normal), q .normal) in
       let j : Machine = taken false (done-with k s) in
-      let j-is : after now (byWrite t ++ finish s ∷ []) ≡ j = finishes false (ap runs p) in
-      let e : after now (byWrite t ++ finish s ∷ byWake) ≡ awake j = ap (λ (k : Machine). after k byWake) j-is ∙ wake-begins j p (omega (arith, done-begun, room)) in
+      let j-is : after now (byWrite t ++ finish s) ≡ j = finishes false (ap runs p) in
+      let e : after now (byWrite t ++ finish s ++ byWake) ≡ awake j = ap (λ (k : Machine). after k byWake) j-is ∙ wake-begins j p (omega (arith, done-begun, room)) in
       record {
         is-held = is-held;
         none-begins = ap (λ (k : Machine). k .ledger .begun) j-is ∙ done-begun;
         begins = subst (λ (k : Machine). Begins now k (codesOf t)) (sym e)
-            (record { begun-is = omega (arith, done-begun, room); runs-now = refl; codes-are = held-codes (k .device) t refl });
+            (record { begun-is = omega (arith, done-begun, room); runs-now = refl; copying-now = refl; codes-are = held-codes (k .device) t refl });
         delivers = subst (λ (k : Machine). let x = closed (after k (measured t)) (t .lent) in Delivers (now .ledger .begun + 1) (now .ledger .delivered + 1) (codesOf t) t (x .0) (x .1))
             (sym e) (delivers-from (awake j) refl (held-codes (k .device) t refl) refl refl refl refl);
       }

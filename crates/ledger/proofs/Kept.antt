@@ -1,7 +1,7 @@
 -- The one invariant, of a machine and the history that led to it, and that every event keeps it.
 use Prim.Native.Nat.{ℕ, _+_, _-_, _*_, _/_, _%_, _≤_, _<_}
 use mathlib.Core.Path.{_≡_, refl, sym, ap, _∙_, subst}
-use mathlib.Core.Bool.{Bool, true, false, cond, _&&_, _||_, true≢false}
+use mathlib.Core.Bool.{Bool, true, false, not, cond, _&&_, _||_, true≢false}
 use mathlib.Core.List.{List, [], _∷_, _++_, append-assoc}
 use native.Mathlib.Omega.{arith}
 use lib.Dec.{ltb}
@@ -34,6 +34,7 @@ use Rattle.ledger.specs.Bytes.{dataBytes}
 use Rattle.ledger.specs.History.{codesIn, openedAt, givenIn, wholeIn, Measurement, shownBy, bit}
 use Rattle.ledger.specs.Added.{takes, writesF4, takesHeld, added, addedAfter, history}
 use Rattle.ledger.specs.Statements.{AreOf}
+use Rattle.ledger.proofs.Tests.{and-right}
 use Rattle.ledger.proofs.Book as bk
 use Rattle.ledger.proofs.Book.{Book, nonzero, nonzero-pos, enter, Asks}
 use Rattle.ledger.proofs.Right.{Right, right-fresh, right-enter, none-waits}
@@ -158,7 +159,9 @@ kept-effect : (m : Machine) (v : ℕ) (h : List Happening) → busy m ≡ false 
     → Kept (effect m v) (takes h v ++ h)
 unfolding effect
 kept-effect m v h i f k =
-    rw (← k .device-is, begins-is (m .device) v i) (at (beginsBy (m .device .phase) v) refl)
+    rw (← k .device-is)
+    (subst (λ (b : Bool). Kept (withDevice (control.controlled (m .device) v) (withLedger (begunIf b (m .ledger)) m)) (cond (beginsBy (m .device .phase) v) (began ∷ changed (tookF4 v) ∷ []) (changed (tookF4 v) ∷ []) ++ h))
+    (sym (begins-is (m .device) v i)) (at (beginsBy (m .device .phase) v) refl))
   where
     set : Machine
     set = withDevice (changes (tookF4 v) (m .device)) m
@@ -230,7 +233,7 @@ keeps = record {
   writes-f5 = λ m v c s h k. rw (bit-dropped v) (kept-changed (wroteF5 v) m h refl (λ _. refl) (k .tidy .none-held) k);
   holds-f4 = λ m v c u q h k. rw (← k .device-is, ← runs-is (m .device .phase), u) (kept-changed (heldF4 v) m h refl (λ _. refl) (λ i. absurd (true≢false (sym u ∙ i))) k);
   takes-f4 = λ m v c i b h k. written-f4 m v h i b k;
-  finishes = kept-finish;
+  finishes = λ m x y z u. kept-finish m x y z (and-right (not (m .device .copying)) (busy m) u);
   wakes = λ m y b h k. kept-wake m y b h k;
   opens = λ m a o r h k. kept-opened m a h o k;
   gives = kept-gives;

@@ -1,11 +1,11 @@
 -- The number that an event hands back is the one that the checks give after the history.
 use Prim.Native.Nat.{ℕ}
 use mathlib.Core.Path.{_≡_, refl, sym, ap, _∙_}
-use mathlib.Core.Bool.{false, _&&_}
+use mathlib.Core.Bool.{Bool, true, false, not, _&&_, _||_}
 use mathlib.Core.List.{List}
 use native.Mathlib.Omega.{arith}
 use lib.Dec.{leb}
-use borrow.Author.Tests.{leb-true, le-leb, eqb-true, eq-eqb, not-true, not-false}
+use borrow.Author.Tests.{leb-true, le-leb, eqb-true, eq-eqb}
 use Rattle.paper.specs.Registers as reg
 use Rattle.machine.specs.declared.Held.{Held}
 use Rattle.machine.specs.declared.Held.the-variants.{Nothing, Byte}
@@ -17,14 +17,14 @@ use Rattle.machine.specs.declared.Event.{Event}
 use Rattle.machine.specs.State.{runs, sleeps, standsBy, isHeld, isOpen}
 use Rattle.machine.specs.Counts.{isBarred}
 use Rattle.machine.specs.Control as control
-use Rattle.machine.specs.Events.{heldWillBegin}
+use Rattle.machine.specs.Events.{mayWrite, mayFinish, heldWillBegin}
 use Rattle.machine.specs.Event.{answer}
 use Rattle.machine.proofs.Walk
 use Rattle.machine.proofs.Walk.{Steps, Refuses, MayControl, walk}
 use Rattle.ledger.specs.Happening.{Happening}
 use Rattle.ledger.specs.Device.{isSleep, isConverting, isStandby, beginsBy, finishes, deviceIn}
 use Rattle.ledger.specs.History.{begunIn, openIn, openedAt, givenIn}
-use Rattle.ledger.specs.Answers.{holds, heldBegins, allBegunIn, addressIn, numberIn}
+use Rattle.ledger.specs.Answers.{holds, heldBegins, allBegunIn, mayWriteIn, mayFinishIn, addressIn, numberIn}
 use Rattle.ledger.proofs.Tests.{same-test}
 use Rattle.ledger.proofs.Given.{Spans}
 use Rattle.ledger.proofs.Control.{runs-is, sleeps-is, stands-is, begins-is, held-begins-is, rested-phase, finished-idle}
@@ -33,6 +33,18 @@ use Rattle.ledger.proofs.Kept.{Kept}
 holds-is : (q : Held) → isHeld q ≡ holds q
 holds-is Nothing = refl
 holds-is (Byte v) = refl
+
+-- the tests of the machine and of the history, by copying c and running r
+writes-as : (c r : Bool) → not c || r ≡ not (c && not r)
+writes-as true true = refl
+writes-as true false = refl
+writes-as false r = refl
+
+finishes-as : (c r : Bool) → not c && r ≡ r && not c
+finishes-as true true = refl
+finishes-as true false = refl
+finishes-as false true = refl
+finishes-as false false = refl
 
 module _ (m : Machine) (h : List Happening) (k : Kept m h) where
   opens : isOpen (m .burst) ≡ openIn h
@@ -71,8 +83,14 @@ module _ (m : Machine) (h : List Happening) (k : Kept m h) where
   pub address-is : (i j : ℕ) → m .burst ≡ burst.Open i j → j ≡ addressIn h
   address-is i j e = let s : Spans i j (openedAt h) (givenIn h) = rw e at (k .spanned) in s .next-is
 
-  not-copying : MayControl m → deviceIn h .copying ≡ false
-  not-copying c = sym copies ∙ not-true (m .device .copying) (c .may-write)
+  may-write : mayWrite (m .device) ≡ mayWriteIn h
+  may-write = writes-as (m .device .copying) (runs (m .device .phase)) ∙ rw (copies, runs-in)
+
+  may-finish : mayFinish (m .device) ≡ mayFinishIn h
+  may-finish = finishes-as (m .device .copying) (runs (m .device .phase)) ∙ rw (copies, runs-in)
+
+  may-control : MayControl m → mayWriteIn h ≡ true
+  may-control c = sym may-write ∙ c .may-write
 
   closed-in : MayControl m → openIn h ≡ false
   closed-in c = sym opens ∙ c .none-open
@@ -82,13 +100,13 @@ module _ (m : Machine) (h : List Happening) (k : Kept m h) where
   refusal e n (Walk.write-in-burst a v o) = rw (← opens, o)
   refusal e n (Walk.write-elsewhere a v o w) = rw (← opens, o, w)
   refusal e n (Walk.reset-otherwise v o q) = rw (← opens, o, q)
-  refusal e n (Walk.write-copying a v o w r c) = rw (← opens, o, w, r, ← copies, not-false (m .device .copying) c)
-  refusal e n (Walk.f5-awake v c s) = rw (closed-in c, not-copying c, ← sleeps-in, s)
-  refusal e n (Walk.f4-held v c u q) = rw (closed-in c, not-copying c, ← runs-in, u, ← holds-in, q)
-  refusal e n (Walk.f4-barred v c i b) = rw (closed-in c, not-copying c, ← runs-in, i, ← barred-by v i, b)
-  refusal e n (Walk.finish-early x y z u) = rw (← runs-in, u)
-  refusal e n (Walk.finish-too-large x y z u r) = rw (← runs-in, u, r)
-  refusal e n (Walk.finish-barred x y z u r b) = rw (← runs-in, u, r, ← barred-held, b)
+  refusal e n (Walk.write-copying a v o w r c) = rw (← opens, o, w, r, ← may-write, c)
+  refusal e n (Walk.f5-awake v c s) = rw (closed-in c, may-control c, ← sleeps-in, s)
+  refusal e n (Walk.f4-held v c u q) = rw (closed-in c, may-control c, ← runs-in, u, ← holds-in, q)
+  refusal e n (Walk.f4-barred v c i b) = rw (closed-in c, may-control c, ← runs-in, i, ← barred-by v i, b)
+  refusal e n (Walk.finish-early x y z u) = rw (← may-finish, u)
+  refusal e n (Walk.finish-too-large x y z u r) = rw (← may-finish, u, r)
+  refusal e n (Walk.finish-barred x y z u r b) = rw (← may-finish, u, r, ← barred-held, b)
   refusal e n (Walk.wake-elsewhere y) = rw (← stands-in, y)
   refusal e n (Walk.wake-barred y b) = rw (← stands-in, y, ← all-begun, b)
   refusal e n (Walk.open-in-burst a o) = rw (← opens, o)
@@ -107,11 +125,11 @@ numbered = record {
   powers = λ m h k. refl;
   copies = λ m c h k. rw (← copies m h k, c);
   resets = λ m o h k. rw (← opens m h k, o);
-  writes-f2 = λ m v c h k. rw (closed-in m h k c, not-copying m h k c);
-  writes-f5 = λ m v c s h k. rw (closed-in m h k c, not-copying m h k c, ← sleeps-in m h k, s);
-  holds-f4 = λ m v c u q h k. rw (closed-in m h k c, not-copying m h k c, ← runs-in m h k, u, ← holds-in m h k, q);
-  takes-f4 = λ m v c i b h k. rw (closed-in m h k c, not-copying m h k c, ← runs-in m h k, i, ← barred-by m h k v i, b);
-  finishes = λ m x y z u r b h k. rw (← runs-in m h k, u, r, ← barred-held m h k, b);
+  writes-f2 = λ m v c h k. rw (closed-in m h k c, may-control m h k c);
+  writes-f5 = λ m v c s h k. rw (closed-in m h k c, may-control m h k c, ← sleeps-in m h k, s);
+  holds-f4 = λ m v c u q h k. rw (closed-in m h k c, may-control m h k c, ← runs-in m h k, u, ← holds-in m h k, q);
+  takes-f4 = λ m v c i b h k. rw (closed-in m h k c, may-control m h k c, ← runs-in m h k, i, ← barred-by m h k v i, b);
+  finishes = λ m x y z u r b h k. rw (← may-finish m h k, u, r, ← barred-held m h k, b);
   wakes = λ m y b h k. rw (← stands-in m h k, y, ← all-begun m h k, b);
   opens = λ m a o r h k. rw (← opens m h k, o, r);
   gives = λ m i j e l h k. rw (← opens m h k, e, ← address-is m h k i j e, l);

@@ -1,12 +1,12 @@
 -- One turn, step by step: what each event makes of a machine that is ready for it.
 use Prim.Native.Nat.{ℕ, _%_, _<_}
 use mathlib.Core.Path.{_≡_, refl, sym, ap, _∙_}
-use mathlib.Core.Bool.{Bool, true, false, not, cond}
+use mathlib.Core.Bool.{Bool, true, false, not, cond, _||_}
 use mathlib.Core.List.{List, [], _∷_}
 use lib.Dec.{eqb}
 use lib.ListN.{length}
 use borrow.Author.Tests.{lt-ltb, lt-leb, ne-eqb, eq-eqb, eqb-true}
-use Rattle.paper.specs.Numbers.{done, wrongPhase, allBegun}
+use Rattle.paper.specs.Numbers.{done, stillCopying, wrongPhase, allBegun}
 use Rattle.paper.specs.Registers as reg
 use Rattle.machine.specs.declared.Phase.{Phase}
 use Rattle.machine.specs.declared.Phase.the-variants.{Sleep, Forced, Normal, Standby}
@@ -22,11 +22,11 @@ use Rattle.machine.specs.State.{runs, standsBy, isOpen}
 use Rattle.machine.specs.Counts.{isBarred, begunIf}
 use Rattle.machine.specs.Control.{phaseAfter, controlled, effect, heldBegins, heldEffect}
 use Rattle.machine.specs.Data.{inRange, stored}
-use Rattle.machine.specs.Events.{answered, heldF4, takenF4, mayFinish, rested, finishedOne, showing, keeping, landed, converted, awake, wholeClosing, writtenTo, closed}
-use Rattle.machine.specs.declared.Event.the-variants.{Finish, Wake, Open, Byte}
+use Rattle.machine.specs.Events.{answered, heldF4, takenF4, writtenF4, mayWrite, mayFinish, rested, finishedOne, showing, keeping, landed, converted, awake, wholeClosing, writtenTo, closed}
+use Rattle.machine.specs.declared.Event.the-variants.{Copied, Write, Finish, Wake, Open, Byte}
 use Rattle.machine.specs.Event.{next, after}
-use Rattle.ledger.specs.Alive.{Turn, Fits, byWrite, measured}
-use Rattle.ledger.proofs.Tests.{chosen, passed}
+use Rattle.ledger.specs.Alive.{Turn, Fits, byWrite, finish, measured}
+use Rattle.ledger.proofs.Tests.{or-true, chosen, passed}
 
 in-range : (t : Turn) → Fits t → inRange (t .temperature) (t .pressure) (t .humidity) ≡ true
 in-range t f =
@@ -97,30 +97,52 @@ module _ (m : Machine) (t : Turn) where
   abbrev pub holding : Machine
   holding = withDevice (withHeld (held.Byte (t .f4)) (withF2 (t .f2 % 8) (m .device))) m
 
-  abbrev holder : Held → Bool → Burst → Machine
-  holder q c b = withBurst b (withDevice (withHeld q (withCopying c (m .device))) m)
+  abbrev holder : Held → Burst → Machine
+  holder q b = withBurst b (withDevice (withHeld q (m .device)) m)
 
-  same-holder : {p q : Held} {c d : Bool} {b k : Burst} → p ≡ q → c ≡ d → b ≡ k → holder p c b ≡ holder q d k
-  same-holder e f g = cc
+  same-holder : {p q : Held} {b k : Burst} → p ≡ q → b ≡ k → holder p b ≡ holder q k
+  same-holder e g = cc
+
+  abbrev not-held : Machine
+  not-held = holder held.Nothing burst.Closed
 
   abbrev held-f2 : Machine
-  held-f2 = let k = holder held.Nothing false burst.Closed in withDevice (withF2 (t .f2 % 8) (k .device)) k
+  held-f2 = withDevice (withF2 (t .f2 % 8) (not-held .device)) not-held
 
-  pub write-holds : runs (m .device .phase) ≡ true → m .device .held ≡ held.Nothing → m .device .copying ≡ false → m .burst ≡ burst.Closed
-      → after m (byWrite t) ≡ holding
-  write-holds u n c b =
-      ap (λ (k : Machine). after k (byWrite t)) (same-holder n c b)
-      ∙ ap (λ (o : Outcome). o .machine) (chosen (runs (m .device .phase)) (heldF4 held-f2 (t .f4)) (takenF4 held-f2 (t .f4)) u)
-      ∙ ap (λ (k : Machine). withDevice (withHeld (held.Byte (t .f4)) (withF2 (t .f2 % 8) (k .device))) k) (sym (same-holder n c b))
+  -- copying or not
+  may-write : runs (m .device .phase) ≡ true → not (mayWrite (m .device)) ≡ false
+  may-write u = ap (λ (r : Bool). not (not (m .device .copying) || r)) u ∙ ap not (or-true (not (m .device .copying)))
+
+  pub write-holds : runs (m .device .phase) ≡ true → m .device .held ≡ held.Nothing → m .burst ≡ burst.Closed → after m (byWrite t) ≡ holding
+  write-holds u n b =
+      ap (λ (k : Machine). after k (byWrite t)) (same-holder n b)
+      ∙ ap (λ (o : Outcome). next (o .machine) (Write reg.ctrlMeas (t .f4))) (passed (not (mayWrite (m .device))) (answered stillCopying not-held) (answered done held-f2) (may-write u))
+      ∙ ap (λ (o : Outcome). o .machine)
+      (passed (not (mayWrite (m .device))) (answered stillCopying held-f2) (writtenF4 held-f2 (t .f4)) (may-write u)
+      ∙ chosen (runs (m .device .phase)) (heldF4 held-f2 (t .f4)) (takenF4 held-f2 (t .f4)) u)
+      ∙ ap (λ (k : Machine). withDevice (withHeld (held.Byte (t .f4)) (withF2 (t .f2 % 8) (k .device))) k) (sym (same-holder n b))
 
 pub wake-begins : (m : Machine) → m .device .phase ≡ Standby → m .ledger .begun < reg.mostBegun → next m Wake ≡ awake m
 wake-begins m p room =
     ap (λ (q : Phase). next (withDevice (withPhase q (m .device)) m) Wake) p
     ∙ ap (λ (o : Outcome). o .machine) (passed (isBarred true (m .ledger)) (answered allBegun _) (answered done (awake m)) (lt-leb reg.mostBegun (m .ledger .begun) room))
 
--- ---- it finishes and is read
+-- ---- the calibration is copied for it, or was: it finishes and is read
 
-module _ (m : Machine) (t : Turn) where
+abbrev pub uncopying : Machine → Machine
+uncopying m = withDevice (withCopying false (m .device)) m
+
+copies : (m : Machine) → next m Copied ≡ uncopying m
+copies m = at (m .device .copying) refl
+  where
+    at : (c : Bool) → m .device .copying ≡ c → next m Copied ≡ uncopying m
+    at true e = rw e
+    at false e = rw e
+
+module _ (k : Machine) (t : Turn) where
+  abbrev m : Machine
+  m = uncopying k
+
   abbrev bytes : List ℕ
   bytes = stored (m .device) (t .temperature) (t .pressure) (t .humidity)
 
@@ -141,9 +163,10 @@ module _ (m : Machine) (t : Turn) where
   -- and then what is held takes effect
   finishes-with : Fits t → runs (m .device .phase) ≡ true → (q : Held) → m .device .held ≡ q
       → isBarred (heldBegins q (rested (m .device) .phase)) (m .ledger) ≡ false
-      → next m (Finish (t .temperature) (t .pressure) (t .humidity)) ≡ heldEffect q landed-with
+      → after k (finish t) ≡ heldEffect q landed-with
   finishes-with f u q n free =
-      ap (λ (o : Outcome). o .machine)
+      ap (λ (j : Machine). next j (Finish (t .temperature) (t .pressure) (t .humidity))) (copies k)
+      ∙ ap (λ (o : Outcome). o .machine)
       (passed (not (mayFinish (m .device))) (answered wrongPhase m) _ (ap not u)
       ∙ passed (not (inRange (t .temperature) (t .pressure) (t .humidity))) _ _ (ap not (in-range t f))
       ∙ passed (isBarred (heldBegins (m .device .held) (rested (m .device) .phase)) (m .ledger)) _ (answered done (converted m bytes))
@@ -152,7 +175,7 @@ module _ (m : Machine) (t : Turn) where
 
   -- a held F4, which begins a conversion or none
   pub finish-takes : Fits t → runs (m .device .phase) ≡ true → (v : ℕ) → m .device .held ≡ held.Byte v → (b : Bool) → runs (phaseAfter (rested (m .device) .phase) v) ≡ b
-      → m .ledger .begun < reg.mostBegun → next m (Finish (t .temperature) (t .pressure) (t .humidity))
+      → m .ledger .begun < reg.mostBegun → after k (finish t)
       ≡ withDevice (controlled (rested (m .device)) v) (withLedger (begunIf b (landed-with .ledger)) landed-with)
   unfolding effect heldEffect
   finish-takes f u v n b e room =
@@ -164,7 +187,7 @@ module _ (m : Machine) (t : Turn) where
       at false = refl
 
   module _ (f : Fits t) (u : runs (m .device .phase) ≡ true) (n : m .device .held ≡ held.Nothing) (b : m .burst ≡ burst.Closed) where
-    finishes : next m (Finish (t .temperature) (t .pressure) (t .humidity)) ≡ done-with
+    finishes : after k (finish t) ≡ done-with
     unfolding heldEffect
     finishes = finishes-with f u held.Nothing n refl ∙ lands-shown b
 
@@ -172,11 +195,11 @@ module _ (m : Machine) (t : Turn) where
         → after k (Open reg.firstData ∷ Byte ∷ Byte ∷ Byte ∷ Byte ∷ Byte ∷ Byte ∷ Byte ∷ Byte ∷ []) ≡ withBurst (burst.Open reg.firstData reg.lastRegister) k
     reads k e = ap (λ (q : Burst). after (withBurst q k) (Open reg.firstData ∷ Byte ∷ Byte ∷ Byte ∷ Byte ∷ Byte ∷ Byte ∷ Byte ∷ Byte ∷ [])) e
 
-    measures : after m (measured t) ≡ read-from
+    measures : after k (measured t) ≡ read-from
     unfolding showing
     measures = ap (λ (k : Machine). after k (Open reg.firstData ∷ Byte ∷ Byte ∷ Byte ∷ Byte ∷ Byte ∷ Byte ∷ Byte ∷ Byte ∷ [])) finishes ∙ reads done-with b
 
-    pub closes : closed (after m (measured t)) (t .lent) ≡ (wholeClosing read-from, bytes)
+    pub closes : closed (after k (measured t)) (t .lent) ≡ (wholeClosing read-from, bytes)
     unfolding showing
     closes = ap (λ (k : Machine). closed k (t .lent)) measures
         ∙ ap (λ (c : Outcome). (c, writtenTo c (t .lent)))

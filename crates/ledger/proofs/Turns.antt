@@ -18,7 +18,7 @@ use Rattle.machine.specs.declared.Device.{Device}
 use Rattle.machine.specs.declared.Ledger.{Ledger}
 use Rattle.machine.specs.declared.Outcome.{Outcome}
 use Rattle.machine.specs.declared.Machine.{Machine}
-use Rattle.machine.specs.Fields.{withBurst}
+use Rattle.machine.specs.Fields.{withCopying, withBurst}
 use Rattle.machine.specs.State.{fresh, noConversion, runs, isForced, isThere, isUnread}
 use Rattle.machine.specs.Counts.{begunIf, deliveredIf, overwrittenIf}
 use Rattle.machine.specs.Control.{phaseAfter}
@@ -28,7 +28,7 @@ use Rattle.machine.specs.Event.{next, after}
 use Rattle.ledger.specs.Alive.{Turn, Fits, IsForced, codesOf, byWrite, byWake, measured, Delivers}
 use Rattle.ledger.specs.Alive.{forcedTurns, AllForced, wokenTurns, normalTurns, AllFit, allDelivered, ForcedTurnsRunTruly, NormalTurnsRunTruly}
 use Rattle.ledger.proofs.Book.{same-ledger}
-use Rattle.ledger.proofs.Turn.{begun, controlledBy, mode-runs, write-begins, wake-begins, read-from, closes}
+use Rattle.ledger.proofs.Turn.{begun, controlledBy, uncopying, mode-runs, write-begins, wake-begins, read-from, closes}
 use Rattle.ledger.proofs.Alive.{closed-after, ledger-after, delivers}
 
 -- between two turns: n have begun, all are delivered, and nothing is in the machine but the last one, read
@@ -44,7 +44,6 @@ record Rests (p : Phase) (n : ℕ) (m : Machine) : Type 0 where
 -- in a turn: one more has begun, and runs
 record Runs (n : ℕ) (m : Machine) : Type 0 where
   pub runs-now : runs (m .device .phase) ≡ true
-  pub copying-is : m .device .copying ≡ false
   pub held-is : m .device .held ≡ Nothing
   pub none-open : m .burst ≡ Closed
   pub none-waits : m .waiting ≡ noConversion
@@ -75,11 +74,11 @@ module _ (n : ℕ) (l : n < reg.mostBegun) (m : Machine) (t : Turn) (f : Fits t)
       ledger-after m t (r .none-waits) (omega (arith, begun-is))
       ∙ ap (λ (b : Bool). deliveredIf true (overwrittenIf b (m .ledger))) (r .none-unread) ∙ ap (deliveredIf true) (r .ledger-is) ∙ one-more n l
 
-  rests : (p : Phase) → rested (m .device) .phase ≡ p → Rests p (n + 1) (ended m t)
+  rests : (p : Phase) → rested (uncopying m .device) .phase ≡ p → Rests p (n + 1) (ended m t)
   unfolding showing delivering
   rests p e = subst (Rests p (n + 1)) (sym ends-as) (record {
     phase-is = e;
-    copying-is = pick (λ (d : Device). d .copying ≡ false) (isForced (m .device .phase)) (λ _. r .copying-is) (λ _. r .copying-is);
+    copying-is = pick (λ (d : Device). d .copying ≡ false) (isForced (m .device .phase)) (λ _. refl) (λ _. refl);
     held-is = pick (λ (d : Device). d .held ≡ Nothing) (isForced (m .device .phase)) (λ _. r .held-is) (λ _. r .held-is);
     none-open = refl;
     none-waits = r .none-waits;
@@ -110,7 +109,6 @@ module _ (n : ℕ) (l : n < reg.mostBegun) (m : Machine) where
   write-runs : (t : Turn) → (t .f4 % 4 ≡ 0 → ⊥) → Rests Sleep n m → Runs n (written t)
   write-runs t z r = record {
     runs-now = rw (r .phase-is) (mode-runs Sleep (t .f4) z (λ _. refl));
-    copying-is = r .copying-is;
     held-is = refl;
     none-open = r .none-open;
     none-waits = r .none-waits;
@@ -122,7 +120,6 @@ module _ (n : ℕ) (l : n < reg.mostBegun) (m : Machine) where
   wake-runs : Rests Standby n m → Runs n (awake m)
   wake-runs r = record {
     runs-now = refl;
-    copying-is = r .copying-is;
     held-is = r .held-is;
     none-open = r .none-open;
     none-waits = r .none-waits;
@@ -139,18 +136,18 @@ enters-as : (v : ℕ) (b : Bool) → (v % 4 ≡ 0 → ⊥) → eqb (v % 4) 3 ≡
 enters-as v b z e =
     ap (λ (c : Bool). cond c Sleep (cond (eqb (v % 4) 3) Normal Forced)) (ne-eqb (v % 4) 0 z) ∙ ap (λ (c : Bool). cond c Normal Forced) e
 
-rests-forced : (d : Device) (t : Turn) → d .phase ≡ Sleep → IsForced t → rested (controlledBy t d) .phase ≡ Sleep
+rests-forced : (d : Device) (t : Turn) → d .phase ≡ Sleep → IsForced t → rested (withCopying false (controlledBy t d)) .phase ≡ Sleep
 rests-forced d t e f =
-    rests-as (controlledBy t d) true (rw e (ap isForced (enters-as (t .f4) false (f .not-sleep) (ne-eqb (t .f4 % 4) 3 (f .not-normal)))))
+    rests-as (withCopying false (controlledBy t d)) true (rw e (ap isForced (enters-as (t .f4) false (f .not-sleep) (ne-eqb (t .f4 % 4) 3 (f .not-normal)))))
 
-rests-normal : (d : Device) (t : Turn) → d .phase ≡ Sleep → t .f4 % 4 ≡ 3 → rested (controlledBy t d) .phase ≡ Standby
+rests-normal : (d : Device) (t : Turn) → d .phase ≡ Sleep → t .f4 % 4 ≡ 3 → rested (withCopying false (controlledBy t d)) .phase ≡ Standby
 rests-normal d t e f =
-    rests-as (controlledBy t d) false (rw e (ap isForced (enters-as (t .f4) true (λ z. omega arith) (eq-eqb (t .f4 % 4) 3 f))))
+    rests-as (withCopying false (controlledBy t d)) false (rw e (ap isForced (enters-as (t .f4) true (λ z. omega arith) (eq-eqb (t .f4 % 4) 3 f))))
 
 -- ---- one turn
 
 module _ (n : ℕ) (l : n < reg.mostBegun) (m : Machine) (t : Turn) (f : Fits t) where
-  write-turn : (p : Phase) → (t .f4 % 4 ≡ 0 → ⊥) → rested (controlledBy t (m .device)) .phase ≡ p → Rests Sleep n m
+  write-turn : (p : Phase) → (t .f4 % 4 ≡ 0 → ⊥) → rested (withCopying false (controlledBy t (m .device))) .phase ≡ p → Rests Sleep n m
       → Rests p (n + 1) (next (after m (byWrite t ++ measured t)) (Close (length (t .lent))))
   write-turn p z e r = subst (λ (k : Machine). Rests p (n + 1) (ended k t)) (sym (writes n l m t z r)) (rests n l (written n l m t) t f (write-runs n l m t z r) p e)
 

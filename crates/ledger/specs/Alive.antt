@@ -1,5 +1,5 @@
--- A dead machine does not pass, though the sum alone would let it: whatever came before, the next conversion begins, finishes with its own bytes, is shown
--- under its own number, and is counted, in forced mode and in normal mode, for any codes and counts (proofs/Alive.antt, proofs/Held.antt, proofs/Turns.antt).
+-- A dead machine does not pass, though the sum alone would let it: whatever came before, the next conversion begins, finishes with its own bytes once the
+-- calibration is copied for it, is shown under its own number, and is counted, in forced mode and in normal mode, for any codes and counts (proofs/Alive.antt, proofs/Held.antt, proofs/Turns.antt).
 use Prim.Native.Nat.{ℕ, zero, suc, _+_, _%_, _<_}
 use mathlib.Core.Path.{_≡_}
 use mathlib.Core.Bool.{true, false}
@@ -59,16 +59,21 @@ byWrite t = Write 0xF2 (t .f2) ∷ Write 0xF4 (t .f4) ∷ []
 abbrev pub byWake : List Event
 byWake = Wake ∷ []
 
--- it finishes, and is read whole but for the close
+-- the calibration is copied for it, and it finishes
+abbrev pub finish : Turn → List Event
+finish t = Copied ∷ Finish (t .temperature) (t .pressure) (t .humidity) ∷ []
+
+-- and it is read whole but for the close
 abbrev pub measured : Turn → List Event
 measured t =
-    Finish (t .temperature) (t .pressure) (t .humidity)
-    ∷ Open 0xF7 ∷ Byte ∷ Byte ∷ Byte ∷ Byte ∷ Byte ∷ Byte ∷ Byte ∷ Byte ∷ []
+    finish t
+    ++ Open 0xF7 ∷ Byte ∷ Byte ∷ Byte ∷ Byte ∷ Byte ∷ Byte ∷ Byte ∷ Byte ∷ []
 
--- one more has begun than in m, and runs, with the codes c
+-- one more has begun than in m, and runs, with the codes c and the calibration being copied
 pub record Begins (m now : Machine) (c : Codes) : Type 0 where
   pub begun-is : now .ledger .begun ≡ m .ledger .begun + 1
   pub runs-now : isConverting (now .device .phase) ≡ true
+  pub copying-now : now .device .copying ≡ true
   pub codes-are : now .device .codes ≡ c
 
 -- the close x shows the conversion n of the turn, with the codes c, and then n have begun and d are delivered
@@ -124,11 +129,10 @@ pub record LatchRunsTruly (m : Machine) (t : Turn) : Type 0 where
 
 -- ---- F4 during a conversion is held, and takes effect when that one finishes
 
--- one is running, none is held, nothing is being copied, no burst is open, and there is room for one more
+-- one is running, none is held, no burst is open, and there is room for one more; whether the calibration is still being copied or not
 pub record MayHold (h : List Happening) : Type 0 where
   pub runs-now : isConverting (deviceIn h .phase) ≡ true
   pub none-held : deviceIn h .held ≡ Nothing
-  pub not-copying : deviceIn h .copying ≡ false
   pub none-open : openIn h ≡ false
   pub has-room : begunIn h < 4294967295
 
@@ -142,27 +146,23 @@ pub record LatchesHeld (h : List Happening) (t : Turn) : Type 0 where
   pub normal : t .f4 % 4 ≡ 3
   pub from-normal : deviceIn h .phase ≡ Normal
 
--- the running one finishes with the counts of s
-abbrev pub finish : Turn → Event
-finish s = Finish (s .temperature) (s .pressure) (s .humidity)
-
--- the write begins nothing, and leaves the running one its codes
+-- the write begins nothing, and leaves the running one its codes; then the running one finishes with the counts of s
 pub record IsHeld (m : Machine) (t : Turn) : Type 0 where
   pub none-begins : after m (byWrite t) .ledger ≡ m .ledger
   pub codes-stay : after m (byWrite t) .device .codes ≡ m .device .codes
 
 pub record HeldRunsTruly (m : Machine) (s t : Turn) : Type 0 where
   pub is-held : IsHeld m t
-  pub begins : Begins m (after m (byWrite t ++ finish s ∷ [])) (codesOf t)
-  pub begins-in-burst : (a : ℕ) → reg.isReadable a ≡ true → Begins m (after m (byWrite t ++ Open a ∷ finish s ∷ [])) (codesOf t)
-  pub delivers : let x = closed (after m (byWrite t ++ finish s ∷ measured t)) (t .lent) in
+  pub begins : Begins m (after m (byWrite t ++ finish s)) (codesOf t)
+  pub begins-in-burst : (a : ℕ) → reg.isReadable a ≡ true → Begins m (after m (byWrite t ++ Open a ∷ finish s)) (codesOf t)
+  pub delivers : let x = closed (after m (byWrite t ++ finish s ++ measured t)) (t .lent) in
       Delivers (m .ledger .begun + 1) (m .ledger .delivered + 1) (codesOf t) t (x .0) (x .1)
 
 pub record HeldLatchRunsTruly (m : Machine) (s t : Turn) : Type 0 where
   pub is-held : IsHeld m t
-  pub none-begins : after m (byWrite t ++ finish s ∷ []) .ledger .begun ≡ m .ledger .begun
-  pub begins : Begins m (after m (byWrite t ++ finish s ∷ byWake)) (codesOf t)
-  pub delivers : let x = closed (after m (byWrite t ++ finish s ∷ byWake ++ measured t)) (t .lent) in
+  pub none-begins : after m (byWrite t ++ finish s) .ledger .begun ≡ m .ledger .begun
+  pub begins : Begins m (after m (byWrite t ++ finish s ++ byWake)) (codesOf t)
+  pub delivers : let x = closed (after m (byWrite t ++ finish s ++ byWake ++ measured t)) (t .lent) in
       Delivers (m .ledger .begun + 1) (m .ledger .delivered + 1) (codesOf t) t (x .0) (x .1)
 
 -- ---- turn after turn, from the fresh state

@@ -48,12 +48,13 @@ ignoresWrite h a v =
 abbrev pub beginsWrite : List Happening → ℕ → ℕ → Bool
 beginsWrite h a v = eqb a 0xF4 && (not (isConverting (phaseIn h)) && beginsBy (phaseIn h) v)
 
--- F2, F4 and F5 may be written once nothing is being copied; a conversion may finish while it is running
+-- F2, F4 and F5 may be written but where something is being copied and no conversion is running
 abbrev pub mayWriteIn : List Happening → Bool
-mayWriteIn h = not (deviceIn h .copying)
+mayWriteIn h = not (deviceIn h .copying && not (isConverting (phaseIn h)))
 
+-- a conversion may finish while it is running, once nothing is being copied
 abbrev pub mayFinishIn : List Happening → Bool
-mayFinishIn h = isConverting (phaseIn h)
+mayFinishIn h = isConverting (phaseIn h) && not (deviceIn h .copying)
 
 -- the address that the open burst gives next: the one that was asked for, and one more for each byte given since
 abbrev pub addressIn : List Happening → ℕ

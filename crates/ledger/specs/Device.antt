@@ -66,11 +66,11 @@ changes (heldF4 v) d = record { phase = d .phase; copying = d .copying; f2 = d .
 changes (tookF4 v) d =
     record { phase = cond (asksNormal v && isStandby (d .phase)) Standby Sleep; copying = d .copying; f2 = d .f2; f4 = v; f5 = d .f5; held = byte.Nothing; codes = codesBy v (d .f2) }
 
--- a conversion begins: normal in standby, and in sleep as F4 asks
+-- a conversion begins: normal in standby, and in sleep as F4 asks; the calibration is copied for it
 abbrev pub begins : Device → Device
 begins d = record {
   phase = cond (isStandby (d .phase) || asksNormal (d .f4)) Normal Forced;
-  copying = d .copying;
+  copying = true;
   f2 = d .f2;
   f4 = d .f4;
   f5 = d .f5;

@@ -18,7 +18,7 @@ use Rattle.machine.specs.Events.{byteGiven}
 use Rattle.machine.specs.Event.{next, answer}
 use Rattle.ledger.specs.Happening.{Happening, finished}
 use Rattle.ledger.specs.Device.{isConverting, beginsBy, deviceIn}
-use Rattle.ledger.specs.Answers.{numberIn}
+use Rattle.ledger.specs.Answers.{mayFinishIn, numberIn}
 use Rattle.ledger.specs.Added.{takes, takesHeld, writes, adds, added, addedAfter, history}
 use Rattle.ledger.proofs.Kept.{Kept, kept, kept-after}
 use Rattle.ledger.proofs.Numbers.{number-is}
@@ -53,11 +53,12 @@ module _ (t p u : ℕ) (h : List Happening) (s : Sound (finished t p u ∷ h)) w
 
 good-finish : (t p u : ℕ) (h : List Happening) → numberIn h (Finish t p u) ≡ 0 → Good (finished t p u) h
 good-finish t p u h e =
-    let run = passes (isConverting (deviceIn h .phase)) 6 _ (omega arith) e in
+    let run = passes (mayFinishIn h) 6 _ (omega arith) e in
     let fit = passes (ltb t 0x100000 && (ltb p 0x100000 && ltb u 0x10000)) 7 _ (omega arith) (run .1) in
     let x = both (ltb t 0x100000) (ltb p 0x100000 && ltb u 0x10000) (fit .0) in
     let y = both (ltb p 0x100000) (ltb u 0x10000) (x .1) in
-    (run .0, record { temperature = ltb-true t 0x100000 (x .0); pressure = ltb-true p 0x100000 (y .0); humidity = ltb-true u 0x10000 (y .1) })
+    (both (isConverting (deviceIn h .phase)) (not (deviceIn h .copying)) (run .0) .0,
+    record { temperature = ltb-true t 0x100000 (x .0); pressure = ltb-true p 0x100000 (y .0); humidity = ltb-true u 0x10000 (y .1) })
 
 -- what a done event adds
 sound-adds : (h : List Happening) → Sound h → (e : Event) → WritesBytes (e ∷ []) → numberIn h e ≡ 0 → (v : ℕ) → Sound (adds h e v ++ h)

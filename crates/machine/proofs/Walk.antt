@@ -23,7 +23,7 @@ use Rattle.machine.specs.Data.{inRange, stored, register}
 use Rattle.machine.specs.Events as ev
 use Rattle.machine.specs.Event.{stepped}
 
--- F2, F4 and F5 may be written: no burst is open, and nothing is being copied
+-- F2, F4 and F5 may be written: no burst is open, and nothing is being copied or a conversion is running
 pub record MayControl (m : Machine) : Type 0 where
   pub none-open : isOpen (m .burst) ≡ false
   pub may-write : ev.mayWrite (m .device) ≡ true

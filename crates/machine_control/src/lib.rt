@@ -31,11 +31,13 @@ pub fn begins(p: Phase, f4: u8) -> bool
     machine_state::is_running(phase_after(p, f4))
 }
 
-// The device goes on in a phase; a beginning sets nothing else.
+// The device goes on in a phase; a beginning sets copying.
 pub fn enter(phase: Phase, d: Device) -> Device
     ensures { λ r. ⌜ r ≡ control.entered phase d ⌝ }
 {
-    machine_state::with_phase(phase, d)
+    let mut e = d;
+    e.copying = machine_state::is_running(phase) | d.copying;
+    machine_state::with_phase(phase, e)
 }
 
 // The oversampling codes of F4, humidity's from F2.

@@ -12,7 +12,7 @@ pub fn may_finish(d: Device) -> bool
     ensures { λ r. ⌜ r ≡ ev.mayFinish d ⌝ }
 {
     let phase = d.phase;
-    machine_state::is_running(phase)
+    !d.copying & machine_state::is_running(phase)
 }
 
 // Whether the running conversion is a forced one.

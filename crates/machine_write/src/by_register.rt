@@ -111,10 +111,11 @@ fn write_f4(m: Machine, value: u8) -> Outcome
 fn may_write(d: Device) -> bool
     ensures { λ r. ⌜ r ≡ ev.mayWrite d ⌝ }
 {
-    !d.copying
+    let phase = d.phase;
+    !d.copying | machine_state::is_running(phase)
 }
 
-// F2, F5 and F4, once the calibration is copied.
+// F2, F5 and F4, once the calibration is copied and during a conversion.
 pub fn write_control(m: Machine, register: u8, value: u8) -> Outcome
     ensures { λ r. ⌜ r ≡ ev.writtenControl m register value ⌝ }
 {

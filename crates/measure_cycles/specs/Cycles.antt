@@ -1,4 +1,4 @@
--- A forced cycle of the machine: F4 is written, the conversion finishes with its counts, and a whole burst reads it. The first
+-- A forced cycle of the machine: F4 is written, the calibration is copied, the conversion finishes with its counts, and a whole burst reads it. The first
 -- event that is refused ends the cycle. All bytes given are taken together by exclusive or.
 use Prim.Native.Nat.{ℕ, zero, suc}
 use mathlib.Core.Bool.{cond}
@@ -29,8 +29,11 @@ afterOpen o seen lent = cond (eqb (o .answer) no.done) (closedAfter (given 8 (o 
 unfoldable pub afterFinish : Outcome → ℕ → List ℕ → Ridden × List ℕ
 afterFinish o seen lent = cond (eqb (o .answer) no.done) (afterOpen (ev.opened (o .machine) reg.firstData) seen lent) (stopped o seen, lent)
 
+unfoldable pub afterCopied : Outcome → ℕ → ℕ → ℕ → ℕ → List ℕ → Ridden × List ℕ
+afterCopied o seen t p h lent = cond (eqb (o .answer) no.done) (afterFinish (ev.finished (o .machine) t p h) seen lent) (stopped o seen, lent)
+
 unfoldable pub afterWrite : Outcome → ℕ → ℕ → ℕ → ℕ → List ℕ → Ridden × List ℕ
-afterWrite o seen t p h lent = cond (eqb (o .answer) no.done) (afterFinish (ev.finished (o .machine) t p h) seen lent) (stopped o seen, lent)
+afterWrite o seen t p h lent = cond (eqb (o .answer) no.done) (afterCopied (ev.copyingEnded (o .machine)) seen t p h lent) (stopped o seen, lent)
 
 unfoldable pub ridden : Machine → ℕ → ℕ → ℕ → ℕ → ℕ → List ℕ → Ridden × List ℕ
 ridden m seen f4 t p h lent = afterWrite (ev.written m reg.ctrlMeas f4) seen t p h lent

@@ -71,21 +71,31 @@ fn read_finished(finished: Outcome, seen: u8, lent: &mut [u8]) -> Ridden
     )
 }
 
-// The conversion finishes, if F4 could be written.
-fn finish_written(written: Outcome, seen: u8, t: u32, p: u32, h: u32, lent: &mut [u8]) -> Ridden
+// The conversion finishes, if the calibration was copied for it.
+fn finish_copied(copied: Outcome, seen: u8, t: u32, p: u32, h: u32, lent: &mut [u8]) -> Ridden
+    ensures { λ r. ⌜ (r, now (lent .exit)) ≡ cycle.afterCopied copied seen t p h (now (lent .entry)) ⌝ }
+{
+    if copied.answer != paper::DONE {
+        return stop(copied, seen);
+    }
+    read_finished(machine_finish::finish(copied.machine, t, p, h), seen, lent)
+}
+
+// The calibration is copied, if F4 could be written.
+fn copy_written(written: Outcome, seen: u8, t: u32, p: u32, h: u32, lent: &mut [u8]) -> Ridden
     ensures { λ r. ⌜ (r, now (lent .exit)) ≡ cycle.afterWrite written seen t p h (now (lent .entry)) ⌝ }
 {
     if written.answer != paper::DONE {
         return stop(written, seen);
     }
-    read_finished(machine_finish::finish(written.machine, t, p, h), seen, lent)
+    finish_copied(machine_start::copied(written.machine), seen, t, p, h, lent)
 }
 
-// Write, finish, open, eight bytes and close.
+// Write, copied, finish, open, eight bytes and close.
 pub fn ride(m: Machine, seen: u8, f4: u8, t: u32, p: u32, h: u32, lent: &mut [u8]) -> Ridden
     ensures { λ r. ⌜ (r, now (lent .exit)) ≡ cycle.ridden m seen f4 t p h (now (lent .entry)) ⌝ }
 {
-    finish_written(
+    copy_written(
         machine_write::write(m, paper::CTRL_MEAS, f4),
         seen,
         t,

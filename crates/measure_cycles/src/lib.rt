@@ -6,7 +6,7 @@ ghost use Rattle.measure_cycles.specs.Cycles.{cycled};
 
 mod forced;
 
-// Forced cycles of the machine one after the other: F4 written, finished with its three counts, and read in a whole burst.
+// Forced cycles of the machine one after the other: F4 written, copied, finished with its three counts, and read in a whole burst.
 // It answers all bytes given, taken together by exclusive or; an event that is refused ends its cycle.
 #[no_mangle]
 pub extern "C" fn speed_cycles(n: u32, f4: u8, t: u32, p: u32, h: u32, lent: &mut [u8]) -> u8

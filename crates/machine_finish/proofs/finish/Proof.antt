@@ -1,5 +1,5 @@
 -- Each branch has made the tests of its case; the last one stores, converts and answers as the definition does.
-use Rattle.laws.specs.Cases.{cases}
+use Rattle.laws.specs.Cases.{not-not-no, cases}
 use Rattle.machine_finish.proofs.finish.Statement.{statement}
 use Rattle.machine_finish.proofs.finish.Tie as tie
 
@@ -10,8 +10,10 @@ barred c = search (cases, rw (c .before .before .before .held-will-begin .ensure
 done : tie.Need-returns-4
 done c =
     let asked = c .before .before .before .before in
+    let may = asked .before .before .before .before in
     rw (c .answer4 .ensures, c .before .convert .ensures, c .before .before .store .ensures)
-    (search (cases, rw (asked .before .held-will-begin .ensures) at (asked .is-barred .ensures)))
+    (not-not-no _ _ _ _ _ (may .if1 .left) (may .before .may-finish .ensures)
+    (search (cases, rw (asked .before .held-will-begin .ensures) at (asked .is-barred .ensures))))
 
 pub finish-spec : {M : Type 1} → statement M
 finish-spec =

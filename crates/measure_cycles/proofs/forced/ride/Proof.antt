@@ -12,7 +12,7 @@ returns c =
     let f = c .before .before in
     let o = f .before .before in
     let a = o .before .before .args in
-    f .finish-written .ensures ∙ ap (λ (q : Outcome). afterWrite q (a .seen) (a .t) (a .p) (a .h) (a .lent .now)) (o .write .ensures)
+    f .copy-written .ensures ∙ ap (λ (q : Outcome). afterWrite q (a .seen) (a .t) (a .p) (a .h) (a .lent .now)) (o .write .ensures)
 
 pub ride-spec : {M : Type 1} → statement M
 ride-spec = tie.close (tie.spec (λ c κs. search needs) (λ c κs. search needs) (λ c. search needs) returns)
