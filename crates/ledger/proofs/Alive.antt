@@ -93,8 +93,8 @@ module _ (es : List Event) where
   pub phase-now : (p : Phase) → deviceIn h .phase ≡ p → now .device .phase ≡ p
   phase-now p e = ap (λ (d : Device). d .phase) (kept es .device-is) ∙ e
 
-  pub copying-now : deviceIn h .copying ≡ false → now .device .copying ≡ false
-  copying-now e = ap (λ (d : Device). d .copying) (kept es .device-is) ∙ e
+  pub copying-now : (b : Bool) → deviceIn h .copying ≡ b → now .device .copying ≡ b
+  copying-now b e = ap (λ (d : Device). d .copying) (kept es .device-is) ∙ e
 
   pub closed-now : openIn h ≡ false → now .burst ≡ Closed
   closed-now o = at (now .burst) (kept es .right .open-is ∙ o)
@@ -141,13 +141,13 @@ module _ (es : List Event) where
   -- forced or normal, by a write in sleep; forced, by a write in standby
   pub write-runs-truly : (t : Turn) → Fits t → MayBeginByWrite h t → WriteRunsTruly now t
   write-runs-truly t f a = writes Sleep refl t f (mode-runs Sleep (t .f4) (a .asks) (λ _. refl))
-      (phase-now Sleep (a .sleeps)) (copying-now (a .not-copying)) (closed-now (a .none-open)) (room-now (a .has-room))
+      (phase-now Sleep (a .sleeps)) (copying-now false (a .not-copying)) (closed-now (a .none-open)) (room-now (a .has-room))
 
   pub standby-runs-truly : (t : Turn) → Fits t → IsForced t → MayWriteInStandby h → WriteRunsTruly now t
   standby-runs-truly t f i a =
       let w = a .may-wake in
       writes Standby refl t f (mode-runs Standby (t .f4) (i .not-sleep) (λ e. absurd (i .not-normal e)))
-      (phase-now Standby (w .stands-by)) (copying-now (a .not-copying)) (closed-now (w .none-open)) (room-now (w .has-room))
+      (phase-now Standby (w .stands-by)) (copying-now false (a .not-copying)) (closed-now (w .none-open)) (room-now (w .has-room))
 
   -- normal, by a wake, with the codes that the history has latched
   pub wake-runs-truly : (t : Turn) → Fits t → MayBeginByWake h → WakeRunsTruly now (deviceIn h .codes) t
@@ -173,7 +173,7 @@ module _ (es : List Event) where
       let o = closed-now (w .none-open) in
       let s : phaseAfter Standby (t .f4) ≡ Standby = rw i in
       let k : Machine = withDevice (controlledBy t (now .device)) now in
-      let k-is : after now (byWrite t) ≡ k = write-latches now t Standby refl (ap runs s) y (copying-now (a .not-copying)) o in
+      let k-is : after now (byWrite t) ≡ k = write-latches now t Standby refl (ap runs s) y (copying-now false (a .not-copying)) o in
       let stands-by : k .device .phase ≡ Standby = rw y s in
       let e : after now (byWrite t ++ byWake) ≡ awake k = ap (λ (k : Machine). after k byWake) k-is ∙ wake-begins k stands-by l in
       record {

@@ -18,6 +18,7 @@ pub mod Outcomes
 pub mod Theorems
 pub mod Turn
 pub mod Alive
+pub mod Copying
 pub mod Held
 pub mod Turns
 pub mod Fresh

@@ -21,7 +21,7 @@ pub overwritten-begun : (t : Bool) (l : Ledger) → overwrittenIf t l .begun ≡
 overwritten-begun true l = refl
 overwritten-begun false l = refl
 
-delivered-begun : (t : Bool) (l : Ledger) → deliveredIf t l .begun ≡ l .begun
+pub delivered-begun : (t : Bool) (l : Ledger) → deliveredIf t l .begun ≡ l .begun
 delivered-begun true l = refl
 delivered-begun false l = refl
 
@@ -38,6 +38,10 @@ lands-burst m d x y z = pick (λ (n : Machine). n .burst ≡ m .burst) (isOpen (
 pub ended-device : (m : Machine) → ended m .device ≡ m .device
 unfolding showing waitingShown
 ended-device m = pick (λ (n : Machine). n .device ≡ m .device) (isThere (m .waiting)) (λ _. refl) (λ _. refl)
+
+pub ended-begun : (m : Machine) → ended m .ledger .begun ≡ m .ledger .begun
+unfolding showing waitingShown
+ended-begun m = pick (λ (n : Machine). n .ledger .begun ≡ m .ledger .begun) (isThere (m .waiting)) (λ _. overwritten-begun (isUnread (m .shown)) (m .ledger)) (λ _. refl)
 
 pub tidy-lands : (m : Machine) (d : Device) (x y z : ℕ) → nonzero (m .ledger .begun) ≡ true → d .held ≡ Nothing → Tidy m → Tidy (lands m d x y z)
 unfolding keeping showing

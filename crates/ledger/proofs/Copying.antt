@@ -1,0 +1,116 @@
+-- A finish waits for a copied event; and a conversion that gets none runs on, whatever else comes.
+use Prim.Native.Nat.{ℕ}
+use mathlib.Core.Path.{_≡_, refl, sym, ap, _∙_, subst}
+use mathlib.Core.Bool.{Bool, true, false, not, _&&_, _||_, false≢true, true≢false}
+use mathlib.Core.List.{List, [], _∷_, _++_}
+use native.Mathlib.Omega.{arith}
+use borrow.Author.Tests.{eq-eqb}
+use Rattle.paper.specs.Numbers.{done, wrongPhase}
+use Rattle.machine.specs.declared.Device.{Device}
+use Rattle.machine.specs.declared.Machine.{Machine}
+use Rattle.machine.specs.declared.Outcome.{Outcome}
+use Rattle.machine.specs.declared.Event.{Event}
+use Rattle.machine.specs.declared.Event.the-variants.{Finish}
+use Rattle.machine.specs.State.{fresh, runs, isUnread}
+use Rattle.machine.specs.Events.{delivering, ended}
+use Rattle.machine.specs.Event.{next, answer, after}
+use Rattle.machine.specs.Refused.{Unchanged}
+use Rattle.machine.proofs.Walk.{Steps, walk}
+use Rattle.machine.proofs.Refused.{refused}
+use Rattle.ledger.specs.Happening.{Happening}
+use Rattle.ledger.specs.Device.{deviceIn}
+use Rattle.ledger.specs.History.{Where, unbegun, running, waiting, shown, gone, isRunning, isPresent, begunIn, whereIs, delivered, abandoned, standing, lostSince}
+use Rattle.ledger.specs.Added.{history}
+use Rattle.ledger.specs.Copying.{FinishWaits, AwaitsCopied, endsCopying, NoneEnds, StandsUncopied}
+use Rattle.ledger.proofs.Tests.{or-true, and-left, and-right}
+use Rattle.ledger.proofs.Control.{standing-idle}
+use Rattle.ledger.proofs.Tidy.{ended-device, ended-begun, delivered-begun}
+use Rattle.ledger.proofs.Kept.{kept}
+use Rattle.ledger.proofs.Theorems.{counts-are-true, standing-is-named}
+use Rattle.ledger.proofs.Numbers.{runs-in}
+use Rattle.ledger.proofs.Alive.{copying-now, after-append}
+
+-- ---- a finish waits
+
+module _ (m : Machine) (c : m .device .copying ≡ true) (t p u : ℕ) where
+  six : answer m (Finish t p u) ≡ wrongPhase
+  six = rw c
+
+  leaves : Unchanged m (Finish t p u)
+  leaves = refused m (Finish t p u) (λ e. let z : wrongPhase ≡ done = sym six ∙ e in omega arith)
+
+pub finish-waits : (es : List Event) → FinishWaits (after fresh es) (history es)
+finish-waits es = let now = copying-now es true in record { number-is = λ c. six (after fresh es) (now c); leaves-all = λ c. leaves (after fresh es) (now c) }
+
+-- ---- what is never copied stands
+
+-- n goes on from m as it was: running, copying, none more begun
+record GoesOn (m n : Machine) : Type 0 where
+  pub runs-now : runs (n .device .phase) ≡ true
+  pub copying-now : n .device .copying ≡ true
+  pub begun-is : n .ledger .begun ≡ m .ledger .begun
+
+same : (m n : Machine) → runs (m .device .phase) ≡ true → m .device .copying ≡ true → n .device ≡ m .device → n .ledger .begun ≡ m .ledger .begun → GoesOn m n
+same m n u c d b = record { runs-now = rw d u; copying-now = rw d c; begun-is = b }
+
+abbrev Stays : Machine → Event → Outcome → Type 0
+Stays m e o = runs (m .device .phase) ≡ true → m .device .copying ≡ true → endsCopying e ≡ false → GoesOn m (o .machine)
+
+ends : (m k : Machine) → runs (m .device .phase) ≡ true → m .device .copying ≡ true → k .device ≡ m .device → k .ledger .begun ≡ m .ledger .begun → GoesOn m (ended k)
+ends m k u c d b = same m (ended k) u c (ended-device k ∙ d) (ended-begun k ∙ b)
+
+stays : Steps Stays
+unfolding delivering
+stays = record {
+  refuses = λ m e n r u c z. same m m u c refl refl;
+  powers = λ m u c z. absurd (true≢false z);
+  copies = λ m e u c z. absurd (true≢false z);
+  resets = λ m o u c z. absurd (true≢false z);
+  writes-f2 = λ m v w u c z. record { runs-now = u; copying-now = c; begun-is = refl };
+  writes-f5 = λ m v w s u c z. record { runs-now = u; copying-now = c; begun-is = refl };
+  holds-f4 = λ m v w r q u c z. record { runs-now = u; copying-now = c; begun-is = refl };
+  takes-f4 = λ m v w i b u c z. absurd (true≢false (sym u ∙ i));
+  finishes = λ m t p h f r b u c z. absurd (false≢true (ap not (sym c) ∙ and-left (not (m .device .copying)) (runs (m .device .phase)) f));
+  wakes = λ m y b u c z. absurd (true≢false (sym u ∙ standing-idle (m .device .phase) y));
+  opens = λ m a o r u c z. same m _ u c refl refl;
+  gives = λ m first at e l u c z. same m _ u c refl refl;
+  ends-whole = λ m o w u c z. ends m (delivering m) u c refl (delivered-begun (isUnread (m .shown)) (m .ledger));
+  ends-partial = λ m o w u c z. ends m m u c refl refl;
+}
+
+goes-on : (m : Machine) (fs : List Event) → runs (m .device .phase) ≡ true → m .device .copying ≡ true → NoneEnds fs → GoesOn m (after m fs)
+goes-on m [] u c z = same m m u c refl refl
+goes-on m (e ∷ fs) u c z =
+    let g = walk Stays stays m e u c (z .0) in
+    let f = goes-on (next m e) fs (g .runs-now) (g .copying-now) (z .1) in
+    record { runs-now = f .runs-now; copying-now = f .copying-now; begun-is = f .begun-is ∙ g .begun-is }
+
+is-running : (w : Where) → isRunning w ≡ true → w ≡ running
+is-running unbegun e = absurd (false≢true e)
+is-running running e = refl
+is-running waiting e = absurd (false≢true e)
+is-running shown e = absurd (false≢true e)
+is-running gone e = absurd (false≢true e)
+
+pub stands-uncopied : (es fs : List Event) → AwaitsCopied (history es) → NoneEnds fs → StandsUncopied (history es) (history (es ++ fs))
+stands-uncopied es fs w z =
+    let m = after fresh es in
+    let n = after fresh (es ++ fs) in
+    let k = begunIn (history es) in
+    let g = history (es ++ fs) in
+    let on : GoesOn m n = subst (GoesOn m) (sym (after-append fresh es fs)) (goes-on m fs (runs-in m (history es) (kept es) ∙ w .runs-now) (copying-now es true (w .copying-now)) z) in
+    let begun : n .ledger .begun ≡ k = on .begun-is ∙ counts-are-true es .begun-is in
+    let named = standing-is-named (es ++ fs) in
+    let runs-on : isRunning (whereIs g k) ≡ true = named .running-is k ∙ rw (on .runs-now, begun, eq-eqb k k refl) in
+    let stands : standing g k ≡ true = named .standing-is k ∙ rw runs-on in
+    let free : not (delivered g k) ≡ true = and-left (not (delivered g k)) (not (lostSince g k)) (and-right (isPresent (whereIs g k)) (not (delivered g k) && not (lostSince g k)) stands) in
+    record {
+      awaits = record {
+        runs-now = sym (runs-in n g (kept (es ++ fs))) ∙ on .runs-now;
+        copying-now = sym (ap (λ (d : Device). d .copying) (kept (es ++ fs) .device-is)) ∙ on .copying-now;
+      };
+      begun-is = sym (counts-are-true (es ++ fs) .begun-is) ∙ begun;
+      running-is = is-running (whereIs g k) runs-on;
+      standing-is = stands;
+      lost-abandons = rw (is-running (whereIs g k) runs-on, free) (or-true (abandoned g k));
+    }

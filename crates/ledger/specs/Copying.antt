@@ -1,0 +1,52 @@
+-- What copying holds up. While it goes on, each finish is refused with 6 and changes nothing. So a conversion for which the calibration is never copied is not
+-- finished: it runs and stands until a reset or power event, which abandons it (proofs/Copying.antt).
+use Prim.Native.Nat.{ℕ}
+use mathlib.Core.Path.{_≡_}
+use mathlib.Core.Bool.{Bool, true, false, _&&_}
+use mathlib.Core.List.{List, [], _∷_}
+use lib.Dec.{eqb}
+use Rattle.paper.specs.Numbers.{wrongPhase}
+use Rattle.machine.specs.declared.Machine.{Machine}
+use Rattle.machine.specs.declared.Event.{Event}
+use Rattle.machine.specs.declared.Event.the-variants.{Power, Copied, Write, Finish, Wake, Open, Byte, Close}
+use Rattle.machine.specs.Event.{answer}
+use Rattle.machine.specs.Refused.{Unchanged}
+use Rattle.ledger.specs.Happening.{Happening, lost}
+use Rattle.ledger.specs.Device.{isConverting, deviceIn}
+use Rattle.ledger.specs.History.{Where, running, begunIn, whereIs, standing, abandoned}
+
+-- ---- a finish waits, after whatever history h that led to the machine m
+
+pub record FinishWaits (m : Machine) (h : List Happening) : Type 0 where
+  pub number-is : deviceIn h .copying ≡ true → (t p u : ℕ) → answer m (Finish t p u) ≡ wrongPhase
+  pub leaves-all : deviceIn h .copying ≡ true → (t p u : ℕ) → Unchanged m (Finish t p u)
+
+-- ---- what is never copied stands
+
+-- one is running, and the calibration is being copied for it
+pub record AwaitsCopied (h : List Happening) : Type 0 where
+  pub runs-now : isConverting (deviceIn h .phase) ≡ true
+  pub copying-now : deviceIn h .copying ≡ true
+
+-- copied, power, and the reset word written to E0
+abbrev pub endsCopying : Event → Bool
+endsCopying Power = true
+endsCopying Copied = true
+endsCopying (Write a v) = eqb a 0xE0 && eqb v 0xB6
+endsCopying (Finish t p u) = false
+endsCopying Wake = false
+endsCopying (Open a) = false
+endsCopying Byte = false
+endsCopying (Close n) = false
+
+abbrev pub NoneEnds : List Event → Type 0
+NoneEnds [] = Unit {0}
+NoneEnds (e ∷ es) = (endsCopying e ≡ false) × NoneEnds es
+
+-- From the history h to a later one g: none has begun since, the last one still runs and stands, and what comes to reset it abandons it.
+pub record StandsUncopied (h g : List Happening) : Type 0 where
+  pub awaits : AwaitsCopied g
+  pub begun-is : begunIn g ≡ begunIn h
+  pub running-is : whereIs g (begunIn h) ≡ running
+  pub standing-is : standing g (begunIn h) ≡ true
+  pub lost-abandons : abandoned (lost ∷ g) (begunIn h) ≡ true
