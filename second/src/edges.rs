@@ -143,8 +143,11 @@ pub fn divisors() -> [Edge; 3] {
 fn walks() -> Vec<&'static str> {
     let mut lines = vec!["fresh", "open 80", "byte", "close 8", "open 7F", "open FF"];
     lines.extend(["byte", "byte", "close 8", "fresh 4294967293", "copied"]);
-    lines.extend(["write F4 27", "finish 519888 415148 0", "wake", "ledger"]);
-    lines.extend(["finish 519888 415148 0", "wake", "ledger", "write F4 00"]);
+    let finish = ["copied", "finish 519888 415148 0", "wake", "ledger"];
+    lines.push("write F4 27");
+    lines.extend(finish);
+    lines.extend(finish);
+    lines.push("write F4 00");
     lines.extend(["write F4 27", "write F4 25", "ledger", "fresh 1 2", "fresh"]);
     lines
 }

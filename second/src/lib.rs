@@ -6,6 +6,7 @@ pub mod bus;
 pub mod calibration;
 pub mod command;
 pub mod compensation;
+pub mod copying;
 pub mod data;
 pub mod edges;
 pub mod generate;

@@ -103,11 +103,12 @@ impl Machine {
         Ok(())
     }
 
-    /// Begins a conversion of either kind with the latched codes.
-    /// The conversion keeps these codes.
+    /// Begins a conversion of either kind with the latched codes, which it keeps.
+    /// Calibration is copied before each one, so that a beginning sets copying.
     fn begin(&mut self, phase: Phase) {
         self.record.begin(self.latched);
         self.phase = phase;
+        self.copying = true;
     }
 
     /// F4 takes effect: it is set, and the codes are latched, humidity's from F2.
@@ -140,8 +141,8 @@ impl Machine {
         self.reset();
     }
 
-    /// The copied event: ends copying.
-    /// Else the event doesn't fit the phase (6).
+    /// The copied event: ends copying, in every phase, and changes nothing else.
+    /// Where nothing is being copied the event doesn't fit (6).
     pub fn copied(&mut self) -> Result<(), Number> {
         if !self.copying {
             return Err(Number::WrongPhase);
@@ -150,7 +151,7 @@ impl Machine {
         Ok(())
     }
 
-    /// The write event: checks 3, 4, 5 (not for E0), 8.
+    /// The write event: checks 3, 4, 5 (copying and nothing running; not for E0), 8.
     /// E0 resets, F2 and F5 are kept, F4 is held or takes effect.
     pub fn write(&mut self, register: u8, value: u8) -> Result<(), Number> {
         if self.next_address.is_some() {
@@ -159,7 +160,7 @@ impl Machine {
         if !WRITABLE.contains(&register) {
             return Err(Number::AddressNotAllowed);
         }
-        if self.copying && register != 0xE0 {
+        if self.copying && !self.running() && register != 0xE0 {
             return Err(Number::Copying);
         }
         match register {
@@ -176,10 +177,13 @@ impl Machine {
         Ok(())
     }
 
-    /// The finish event with its three counts: checks 6, 7, 8.
+    /// The finish event with its three counts: checks 6 (not running, or copying), 7, 8.
     /// The phase changes first, then a held F4 takes effect.
     pub fn finish(&mut self, counts: [u64; 3]) -> Result<(), Number> {
         let conversion = self.record.running().ok_or(Number::WrongPhase)?;
+        if self.copying {
+            return Err(Number::WrongPhase);
+        }
         if !data::within_bits(counts) {
             return Err(Number::OutOfRange);
         }

@@ -2,7 +2,7 @@
 
 use second::generate::{files, Generator, Kind};
 use second::visits::{answers, cases, pack, show, LONGEST_RECORD};
-use second::{edges, maps, sheet, streams, words};
+use second::{copying, edges, maps, sheet, streams, words};
 use std::fs;
 use std::io::{self, BufWriter, ErrorKind, Read, Write};
 use std::path::Path;
@@ -15,7 +15,7 @@ second generate-comp COUNT SEED       writes COUNT compensation readings
 second generate-events COUNT SEED     writes COUNT machine events and ledgers
 second generate-rooms COUNT SEED      writes COUNT points, cells and comparisons of rooms
 second generate-visits COUNT SEED     writes COUNT lines of visit records
-second sheet                          writes K1 to K14, other figures, the edges, the rooms and the visits
+second sheet                          writes K1 to K14, other figures, the edges, copying, the rooms and the visits
 second visit read LEN < RECORD        answers as the bench does, for a record of any length
 second visit write LEN < STEPS        answers as the bench does, for any number of steps
 second visit show < RECORD            writes a record as a text for people
@@ -42,13 +42,14 @@ fn generate(kind: Kind, count: u64, seed: u64) -> io::Result<()> {
     output.flush()
 }
 
-/// Writes the lines of the sheet, of the edges, of the rooms and of the visits to standard output.
+/// Writes the lines of the sheet, of the edges, of copying, of the rooms and of the visits to standard output.
 /// Their order is fixed.
 fn sheet() -> io::Result<()> {
     let mut output = BufWriter::new(io::stdout().lock());
     let parts = [
         sheet::lines(),
         edges::lines(),
+        copying::lines(),
         maps::lines(),
         cases::lines(),
     ];

@@ -222,7 +222,8 @@ fn by_any((one, other, _): Pair) -> [String; 4] {
 /// The burst stays whole, since none of them touches the machine.
 fn during_a_burst() -> Vec<String> {
     let lines = |text: &str| -> Vec<String> { text.split(';').map(String::from).collect() };
-    let mut walk = lines("fresh;copied;write F4 27;finish 519888 415148 0;open F7;byte;byte");
+    let mut walk = lines("fresh;copied;write F4 27;copied;finish 519888 415148 0");
+    walk.extend(lines("open F7;byte;byte"));
     walk.push(asked("point", &k2([1, 1, 0])));
     walk.extend(lines("byte;byte;byte"));
     walk.push(asked("cells", &k2([8, 1, 0])));

@@ -81,14 +81,16 @@ fn waits_and_buses() -> Vec<&'static str> {
 }
 
 /// Lists K12 or K13: a finish during a burst of so many bytes, its close and the ledger.
-/// Eight bytes are K12, three are K13.
+/// Eight bytes are K12, three are K13. Each beginning is followed by a copied event.
 fn finish_during_burst(bytes: usize) -> Vec<&'static str> {
     let mut lines = vec![
         "fresh",
         "copied",
         "write F4 27",
+        "copied",
         "finish 519888 415148 0",
         "wake",
+        "copied",
         "open F7",
         "finish 519889 415149 1",
     ];
@@ -158,20 +160,22 @@ fn walks() -> Vec<&'static str> {
         .into_iter()
         .chain(["byte"; 8])
         .chain(["close 8"]);
+    let finish = ["copied", "finish 519888 415148 8192"];
     let mut lines = vec!["fresh", "copied", "write F4 25", "write F2 01"];
-    lines.push("finish 519888 415148 8192");
+    lines.extend(finish);
     lines.extend(burst.clone());
     lines.extend(burst.clone());
     lines.extend(["ledger", "write F4 25", "write F4 49", "write F4 00"]);
-    lines.push("finish 519888 415148 8192");
+    lines.extend(finish);
+    lines.push("copied");
     lines.extend(burst.clone());
     lines.extend(["ledger", "write E0 B6", "ledger"]);
     lines.extend(burst);
     lines.extend(["fresh 4294967295", "copied", "write F4 25"]);
     lines.extend(["fresh 4294967294", "copied", "write F4 27"]);
-    lines.extend(["finish 0 0 0", "wake", "ledger"]);
+    lines.extend(["copied", "finish 0 0 0", "wake", "ledger"]);
     lines.extend(["fresh 4294967294", "copied", "write F4 25"]);
-    lines.extend(["write F4 25", "finish 0 0 0", "ledger", "fresh"]);
+    lines.extend(["write F4 25", "copied", "finish 0 0 0", "ledger", "fresh"]);
     lines
 }
 

@@ -58,12 +58,15 @@ fn waiting_and_power() {
     check(
         "copied => 0
          write F4 27 => 0
+         copied => 0
          finish 1 2 3 => 0
          open F7 => 0
          wake => 0
+         copied => 0
          finish 4 5 6 => 0
          ledger => begun=2 delivered=0 overwritten=0 abandoned=0 standing=2 running=0 waiting=1 shown=1
          wake => 0
+         copied => 0
          finish 7 8 9 => 0
          ledger => begun=3 delivered=0 overwritten=1 abandoned=0 standing=2 running=0 waiting=1 shown=1
          wake => 0
@@ -77,6 +80,7 @@ fn waiting_and_power() {
          write E0 B6 => 0
          copied => 0
          write F4 25 => 0
+         copied => 0
          finish 1 2 3 => 0
          finish 1 2 3 => 6
          power => 0

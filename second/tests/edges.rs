@@ -178,9 +178,11 @@ fn walks() {
          fresh 4294967293 => 0
          copied => 0
          write F4 27 => 0
+         copied => 0
          finish 519888 415148 0 => 0
          wake => 0
          ledger => begun=4294967295 delivered=4294967293 overwritten=0 abandoned=0 standing=2 running=1 waiting=0 shown=1
+         copied => 0
          finish 519888 415148 0 => 0
          wake => 8
          fresh 1 2 => ? wrong number of words",

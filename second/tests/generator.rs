@@ -85,7 +85,7 @@ fn machines_agree() {
             mix = (mix ^ u64::from(byte)).wrapping_mul(0x0100_0000_01B3);
         }
     }
-    assert_eq!(mix, 2_361_365_198_313_408_686);
+    assert_eq!(mix, 7_651_745_903_016_106_693);
 }
 
 /// Each kind has its own commands only, and no line holds a newline.
@@ -124,7 +124,7 @@ fn kinds_have_their_commands() {
 }
 
 /// Walks are made of real conversions: most events are done, and all closings come.
-/// Held F4, repeated bursts and number 8 come too.
+/// Repeated bursts, waiting conversions and number 8 come too.
 #[test]
 fn walks_are_lively() {
     let walked = lines(Kind::Events, 20_000, 11);
@@ -141,4 +141,22 @@ fn walks_are_lively() {
     assert!(count("before=1") > 100);
     assert!(count("waiting=1") > 20);
     assert!(text.lines().filter(|answer| *answer == "8").count() > 50);
+}
+
+/// Copying in walks: it ends often enough for conversions to finish, and finishes come too soon as well.
+/// Events of each name are counted by their answers.
+#[test]
+fn walks_copy() {
+    let walked = lines(Kind::Events, 20_000, 11);
+    let text = answers(&walked);
+    let count = |event: &str, said: &str| {
+        let spoken = walked.iter().zip(text.lines());
+        let named = spoken.filter(|(line, _)| line.split(' ').next() == Some(event));
+        named.filter(|(_, answer)| *answer == said).count()
+    };
+    assert!(count("finish", "0") > 1_200);
+    assert!(count("finish", "6") > 60);
+    assert!(count("copied", "0") > count("finish", "0"));
+    assert!(count("copied", "6") > 30);
+    assert!(count("write", "5") > 20);
 }

@@ -208,27 +208,28 @@ fn long_walks_without_reset() {
             step(&mut bench, &mut counter, line);
         }
     };
-    run("copied;write F4 27;finish 1 2 3");
+    let next = "wake;copied;finish 1 2 3";
+    run("copied;write F4 27;copied;finish 1 2 3");
     let bytes = ";byte".repeat(8);
     for _ in 0..100 {
         run(&format!(
-            "open F7{bytes};close 8;wake;open F7{bytes};finish 1 2 3;close 8"
+            "open F7{bytes};close 8;wake;copied;open F7{bytes};finish 1 2 3;close 8"
         ));
-        run("wake;finish 1 2 3;wake;finish 1 2 3;open F7;wake;finish 1 2 3;close 8");
+        run(&format!("{next};{next};open F7;{next};close 8"));
     }
     run("open F7;byte");
     for _ in 0..500 {
-        run("wake;finish 1 2 3");
+        run(next);
     }
     run(&format!("{};wake;close 8;ledger", &bytes[1..]));
     for _ in 0..100 {
         run(&format!("open 80{};close 8", ";byte".repeat(128)));
     }
-    run("finish 1 2 3;power;ledger");
+    run("copied;finish 1 2 3;power;ledger");
 }
 
-/// Every sequence of five out of eleven happenings, from a machine that is ready.
-/// Eight bytes go as one of them.
+/// Every sequence of five out of twelve happenings, from a machine that is ready.
+/// Eight bytes go as one of them, and so does a finish with the copied event before it.
 #[test]
 fn every_short_walk() {
     let bytes = ["byte"; 8].join(";");
@@ -239,6 +240,7 @@ fn every_short_walk() {
         "write E0 B6",
         "power",
         "finish 1 2 3",
+        "copied;finish 1 2 3",
         "wake",
         "open F7",
         &bytes,

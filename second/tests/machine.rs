@@ -45,6 +45,7 @@ fn registers_read() {
          write F5 FF => 0
          write F4 57 => 0
          write F5 00 => 1
+         copied => 0
          open F1 => 0
          byte => 0 00
          byte => 0 06
@@ -76,6 +77,7 @@ fn forced_clears_its_mode() {
          write F4 26 => 0
          open F4 => 0
          byte => 0 26
+         copied => 0
          finish 1 2 3 => 0
          close 8 => 0 partial n=0 codes=0,0,0 before=0 buf=AAAAAAAAAAAAAAAA
          open F3 => 0
@@ -99,12 +101,14 @@ fn a_held_f4() {
          write F4 00 => 1
          open F4 => 0
          byte => 0 25
+         copied => 0
          finish 1 2 3 => 0
          close 8 => 0 partial n=0 codes=0,0,0 before=0 buf=AAAAAAAAAAAAAAAA
          open F3 => 0
-         byte => 0 08
+         byte => 0 09
          byte => 0 4B
          close 8 => 0 partial n=0 codes=0,0,0 before=0 buf=AAAAAAAAAAAAAAAA
+         copied => 0
          write F4 6F => 0
          finish 1 2 3 => 0
          open F3 => 0
@@ -112,6 +116,7 @@ fn a_held_f4() {
          byte => 0 6F
          close 8 => 0 partial n=0 codes=0,0,0 before=0 buf=AAAAAAAAAAAAAAAA
          wake => 0
+         copied => 0
          write F4 24 => 0
          finish 1 2 3 => 0
          wake => 6
@@ -127,12 +132,14 @@ fn f4_in_standby() {
     check(
         "copied => 0
          write F4 27 => 0
+         copied => 0
          finish 1 2 3 => 0
          write F2 02 => 0
          write F4 4B => 0
          ledger => begun=1 delivered=0 overwritten=0 abandoned=0 standing=1 running=0 waiting=0 shown=1
          wake => 0
          wake => 6
+         copied => 0
          finish 1 2 3 => 0
          open F7 => 0
          byte => 0 00
@@ -146,8 +153,10 @@ fn f4_in_standby() {
          close 8 => 0 whole n=2 codes=2,2,2 before=0 buf=0000200000100003
          write F4 26 => 0
          wake => 6
+         copied => 0
          finish 1 2 3 => 0
          write F4 27 => 0
+         copied => 0
          finish 1 2 3 => 0
          write F4 24 => 0
          wake => 6
@@ -164,6 +173,7 @@ fn checks_of_finish() {
         "finish 1048576 0 0 => 6
          copied => 0
          write F4 01 => 0
+         copied => 0
          finish 1048576 0 0 => 7
          finish 0 1048576 0 => 7
          finish 0 0 65536 => 7
@@ -198,6 +208,7 @@ fn all_begun() {
          copied => 0
          write F4 27 => 0
          write F4 4B => 0
+         copied => 0
          finish 1 2 3 => 0
          wake => 8
          write F4 25 => 8
@@ -209,6 +220,7 @@ fn all_begun() {
          copied => 0
          write F4 25 => 0
          write F4 27 => 0
+         copied => 0
          finish 1048576 0 0 => 7
          finish 1 2 3 => 8
          write F4 00 => 1

@@ -13,13 +13,14 @@ fn raw(line: &[u8]) -> String {
     String::from_utf8(out).expect("answers are text")
 }
 
-/// The block at the end of the page, verbatim, as one script.
+/// The block at the end of the page as one script, with the copied event that order 4 asks for.
 /// Commands and answers stand in two columns there.
 #[test]
 fn the_pages_example() {
     let block = "
     copied                  0
     write F4 27             0
+    copied                  0
     finish 519888 415148 0  0
     open F7                 0
     close 8                 0 partial n=0 codes=0,0,0 before=0 buf=AAAAAAAAAAAAAAAA
@@ -267,6 +268,7 @@ fn other_readings_of_lines() {
          write f4 2F => 5
          copied => 0
          write f4 2f => 0
+         copied => 0
          finish 0000 4294967295 0 => 7
          close 0 => 6 buf=-
          poll 4294967295 - => 17 polls=0

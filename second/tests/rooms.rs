@@ -162,6 +162,7 @@ fn the_machine_stays() {
          copied => 0
          write F4 27 => 0
          point {six} => {point}
+         copied => 0
          finish 519888 415148 0 => 0
          open F7 => 0
          byte => 0 65

@@ -129,8 +129,10 @@ fn k12() {
     check(
         "copied => 0
          write F4 27 => 0
+         copied => 0
          finish 519888 415148 0 => 0
          wake => 0
+         copied => 0
          open F7 => 0
          finish 1 2 3 => 0
          byte => 0 65
@@ -153,8 +155,10 @@ fn k13() {
     check(
         "copied => 0
          write F4 27 => 0
+         copied => 0
          finish 519888 415148 0 => 0
          wake => 0
+         copied => 0
          open F7 => 0
          finish 1 2 3 => 0
          byte => 0 65
@@ -206,9 +210,11 @@ fn f2_acts_with_f4_and_bursts_repeat() {
          write F4 25 => 0
          write F4 49 => 0
          write F2 FD => 0
+         copied => 0
          finish 1 2 3 => 0
          {first}
          close 8 => 0 whole n=1 codes=1,1,0 before=0 buf=0000200000108000
+         copied => 0
          finish 1 2 3 => 0
          {second}
          close 8 => 0 whole n=2 codes=2,2,5 before=0 buf=0000200000100003

@@ -65,6 +65,12 @@ pub fn finish(random: &mut Random) -> String {
     format!("finish {t} {p} {h}")
 }
 
+/// Makes a line that wakes the device.
+/// There is one such line only.
+pub fn wake(_: &mut Random) -> String {
+    String::from("wake")
+}
+
 /// Picks an address at which to open a burst: 0xF7 for the most part.
 /// Lower ones can be whole too, higher ones cannot, and those below 0x80 are refused.
 pub fn open_address(random: &mut Random) -> u8 {
@@ -93,7 +99,7 @@ pub fn close(random: &mut Random) -> String {
 pub fn any(random: &mut Random) -> String {
     match random.below(12) {
         0 => String::from("copied"),
-        1 => String::from("wake"),
+        1 => wake(random),
         2 => String::from("power"),
         3 => String::from("byte"),
         4 => finish(random),

@@ -17,6 +17,7 @@ impl Generator {
         self.tour_of_visits();
         self.tour_of_buses();
         self.tour_of_events();
+        self.tour_of_copying();
         self.tour_of_limit();
         self.tour_of_reasons();
         self.say("fresh");
@@ -126,20 +127,38 @@ impl Generator {
     /// The counts are seeded.
     fn tour_of_events(&mut self) {
         self.script("fresh;write F2 01;copied;copied;wake;write F3 00;write E0 00");
-        self.script("write F4 27;write F4 27;write F4 00;open F7;open F7;write F2 00");
+        self.script("write F4 27;copied;write F4 27;write F4 00;open F7;open F7;write F2 00");
         let finish = events::finish(&mut self.random);
         self.say(finish);
-        self.script("byte;close 7;close 8;close 8;finish 1048576 0 0;finish 0 0 65536");
+        self.script("byte;close 7;close 8;close 8;wake;copied;finish 1048576 0 0;finish 0 0 65536");
         self.script("finish 0 0 0;open F7;byte;byte;byte;byte;byte;byte;byte;byte;close 8");
         self.script("ledger;write F4 25;power;ledger");
+    }
+
+    /// Reaches 5 in sleep, and what a conversion answers while calibration is copied for it.
+    /// A written F4, a held one and a wake begin in turn; the values and counts are seeded.
+    fn tour_of_copying(&mut self) {
+        let [f2, f5] = [0; 2].map(|_: u8| self.random.byte());
+        let writes = format!("write F2 {f2:02X};write F5 {f5:02X};write F4 27;write F4 25");
+        let finish = events::finish(&mut self.random);
+        for beginning in ["fresh", "copied;write F4 25", "copied;finish 1 2 3"] {
+            self.script(beginning);
+            self.script(&finish);
+            self.script(&writes);
+            self.script("write E0 00;open F3;byte;close 8;wake;finish 0 0 65536");
+        }
+        self.script(
+            "copied;finish 1 2 3;copied;finish 1 2 3;wake;finish 4 5 6;open F3;copied;byte",
+        );
+        self.script("finish 4 5 6;close 8;ledger;wake;write E0 B6;ledger;copied;copied");
     }
 
     /// Reaches 8 by write, by wake, and by finish with a held F4.
     /// Each starts close to the last conversion.
     fn tour_of_limit(&mut self) {
         self.script("fresh 4294967295;copied;write F4 25;ledger");
-        self.script("fresh 4294967294;copied;write F4 27;finish 1 2 3;wake;ledger");
-        self.script("fresh 4294967294;copied;write F4 25;write F4 25;finish 1 2 3;ledger");
+        self.script("fresh 4294967294;copied;write F4 27;copied;finish 1 2 3;wake;ledger");
+        self.script("fresh 4294967294;copied;write F4 25;write F4 25;copied;finish 1 2 3;ledger");
     }
 
     /// Reaches each of the five reasons, and those that lines of the map room and of visits can have.

@@ -22,9 +22,10 @@ impl Generator {
         self.say("copied");
         for _ in 0..self.random.between(8, 30) {
             self.step();
-            if !self.bench.machine().copying() && self.random.percent(30) {
-                let line = events::write_f4(&mut self.random);
-                self.say(line);
+            let machine = self.bench.machine();
+            let refused = machine.copying() && machine.phase() == Phase::Sleep;
+            if !refused && self.random.percent(30) {
+                self.beginning(events::write_f4);
             }
         }
         self.say("ledger");
@@ -41,10 +42,11 @@ impl Generator {
             0..=4 => self.one(events::any),
             5..=9 => self.say("ledger"),
             _ if open => self.step_in_burst(),
-            _ if copying => self.step_copying(),
             _ => match phase {
+                Phase::Sleep if copying => self.step_copying(),
                 Phase::Sleep => self.step_in_sleep(),
                 Phase::Standby => self.step_in_standby(),
+                Phase::Forced | Phase::Normal if copying => self.step_begun(),
                 Phase::Forced | Phase::Normal => self.step_running(),
             },
         }
@@ -57,15 +59,33 @@ impl Generator {
         self.say(line);
     }
 
-    /// Writes a step while calibration is still being copied.
+    /// Says whether a conversion is running for which calibration is still being copied.
+    /// It can't finish yet.
+    fn begun_copying(&self) -> bool {
+        let machine = self.bench.machine();
+        machine.copying() && matches!(machine.phase(), Phase::Forced | Phase::Normal)
+    }
+
+    /// Writes an event that can begin a conversion, and in most cases the end of its copying.
+    /// The other conversions are left copying for later steps.
+    fn beginning(&mut self, event: fn(&mut Random) -> String) {
+        let before = self.begun_copying();
+        self.one(event);
+        if !before && self.begun_copying() && self.random.percent(72) {
+            self.say("copied");
+        }
+    }
+
+    /// Writes a step in sleep while calibration is still being copied.
     /// Copying ends soon; until then writes are refused and bursts show fresh bytes.
     fn step_copying(&mut self) {
         match self.random.below(100) {
-            0..=4 => self.one(events::write_f4),
-            5..=7 => self.one(events::write_settings),
-            8 | 9 => self.one(events::write_reset),
-            10 | 11 => self.one(events::finish),
-            12..=19 => self.burst(),
+            0..=6 => self.one(events::write_f4),
+            7..=13 => self.one(events::write_settings),
+            14 | 15 => self.one(events::write_reset),
+            16 | 17 => self.one(events::finish),
+            18..=23 => self.burst(),
+            24..=26 => self.status(),
             _ => self.say("copied"),
         }
     }
@@ -74,23 +94,55 @@ impl Generator {
     /// Settings are written, and a conversion begins soon.
     fn step_in_sleep(&mut self) {
         match self.random.below(100) {
-            0..=24 => self.one(events::write_settings),
-            25..=74 => self.one(events::write_f4),
-            75 | 76 => self.one(events::write_reset),
-            77..=79 => self.one(events::any),
+            0..=21 => self.one(events::write_settings),
+            22..=72 => self.beginning(events::write_f4),
+            73 | 74 => self.one(events::write_reset),
+            75..=77 => self.one(events::any),
+            78 => self.say("copied"),
             _ => self.burst(),
         }
     }
 
-    /// Writes a step while a conversion is running.
+    /// Writes a step while a conversion has begun and calibration is still being copied for it.
+    /// Copying ends soon; until then no finish is done, and writes go by the running rules.
+    fn step_begun(&mut self) {
+        match self.random.below(100) {
+            0..=10 => self.one(events::finish),
+            11..=23 => self.one(events::write_f4),
+            24..=34 => self.one(events::write_settings),
+            35 | 36 => self.one(events::write_reset),
+            37 => self.say("power"),
+            38 => self.say("wake"),
+            39..=44 => self.status(),
+            45..=50 => self.burst(),
+            _ => self.say("copied"),
+        }
+    }
+
+    /// Writes a burst that reads the status, now and then with something under it.
+    /// Some read the control registers beside it.
+    fn status(&mut self) {
+        let address = self.random.pick(&["F3", "F3", "F2"]);
+        self.say(format!("open {address}"));
+        for _ in 0..self.random.between(1, 3) {
+            if self.random.percent(20) {
+                self.under_burst();
+            }
+            self.say("byte");
+        }
+        self.say("close 8");
+    }
+
+    /// Writes a step while a conversion is running and its copying is over.
     /// It finishes soon; F4 is held before that in many cases.
     fn step_running(&mut self) {
         match self.random.below(100) {
-            0..=49 => self.one(events::finish),
-            50..=69 => self.one(events::write_f4),
-            70..=76 => self.one(events::write_settings),
-            77 | 78 => self.one(events::write_reset),
-            79 => self.say("power"),
+            0..=54 => self.beginning(events::finish),
+            55..=72 => self.one(events::write_f4),
+            73..=78 => self.one(events::write_settings),
+            79 | 80 => self.one(events::write_reset),
+            81 => self.say("power"),
+            82 => self.say("copied"),
             _ => self.burst(),
         }
     }
@@ -99,11 +151,12 @@ impl Generator {
     /// The device wakes soon; F4 may end the standby or leave it running.
     fn step_in_standby(&mut self) {
         match self.random.below(100) {
-            0..=49 => self.say("wake"),
-            50..=64 => self.one(events::write_f4),
-            65..=72 => self.one(events::write_settings),
-            73 | 74 => self.one(events::write_reset),
-            75 => self.say("power"),
+            0..=49 => self.beginning(events::wake),
+            50..=64 => self.beginning(events::write_f4),
+            65..=70 => self.one(events::write_settings),
+            71 | 72 => self.one(events::write_reset),
+            73 => self.say("power"),
+            74 => self.say("copied"),
             _ => self.burst(),
         }
     }
@@ -121,16 +174,20 @@ impl Generator {
     }
 
     /// Writes what can happen in the device while a burst is open.
-    /// Conversions finish and the device wakes; copying ends; the ledger may be asked.
+    /// Conversions finish, some too soon, and the device wakes; copying ends; the ledger may be asked.
     fn under_burst(&mut self) {
         if self.random.percent(10) {
-            self.say("ledger");
+            let line = self.random.pick(&["ledger", "ledger", "copied"]);
+            self.say(line);
         }
         let machine = self.bench.machine();
         match (machine.phase(), machine.copying()) {
+            (Phase::Forced | Phase::Normal, true) if self.random.percent(15) => {
+                self.one(events::finish)
+            }
             (_, true) => self.say("copied"),
-            (Phase::Forced | Phase::Normal, _) => self.one(events::finish),
-            (Phase::Standby, _) => self.say("wake"),
+            (Phase::Forced | Phase::Normal, _) => self.beginning(events::finish),
+            (Phase::Standby, _) => self.beginning(events::wake),
             (Phase::Sleep, _) => self.say("byte"),
         }
     }
@@ -143,15 +200,15 @@ impl Generator {
         if self.bench.machine().next_address().is_none() {
             return;
         }
-        let whole = self.random.percent(65) && address >= 0xE0;
-        let restless = self.random.percent(40);
+        let whole = self.random.percent(70) && address >= 0xE0;
+        let restless = self.random.percent(45);
         let bytes = match whole {
             true => 0xFF - i64::from(address) + i64::from(self.random.percent(20)) * 2,
             false => self.random.between(0, 9),
         };
         for _ in 0..bytes {
             self.say("byte");
-            if restless && self.random.percent(30) {
+            if restless && self.random.percent(40) {
                 self.under_burst();
             }
         }
@@ -162,7 +219,7 @@ impl Generator {
             self.one(events::close);
         }
         self.say("close 8");
-        if whole && self.random.percent(30) {
+        if whole && self.random.percent(35) {
             self.say("open F7");
             for _ in 0..8 {
                 self.say("byte");
