@@ -1,33 +1,33 @@
 -- A finish waits for a copied event; and a conversion that gets none runs on, whatever else comes.
 use Prim.Native.Nat.{ℕ}
 use mathlib.Core.Path.{_≡_, refl, sym, ap, _∙_, subst}
-use mathlib.Core.Bool.{Bool, true, false, not, _&&_, _||_, false≢true, true≢false}
+use mathlib.Core.Bool.{Bool, true, false, not, _&&_, false≢true, true≢false}
 use mathlib.Core.List.{List, [], _∷_, _++_}
 use native.Mathlib.Omega.{arith}
-use borrow.Author.Tests.{eq-eqb}
-use Rattle.paper.specs.Numbers.{done, wrongPhase}
+use lib.Dec.{eqb}
+use borrow.Author.Tests.{eq-eqb, eqb-true}
+use Rattle.paper.specs.Numbers.{done, burstIsOpen, wrongPhase}
 use Rattle.machine.specs.declared.Device.{Device}
 use Rattle.machine.specs.declared.Machine.{Machine}
 use Rattle.machine.specs.declared.Outcome.{Outcome}
 use Rattle.machine.specs.declared.Event.{Event}
-use Rattle.machine.specs.declared.Event.the-variants.{Finish}
-use Rattle.machine.specs.State.{fresh, runs, isUnread}
-use Rattle.machine.specs.Events.{delivering, ended}
+use Rattle.machine.specs.declared.Event.the-variants.{Power, Copied, Write, Finish, Wake, Open, Byte, Close}
+use Rattle.machine.specs.State.{fresh, runs, isOpen, isUnread}
+use Rattle.machine.specs.Events.{answered, reset, delivering, ended}
 use Rattle.machine.specs.Event.{next, answer, after}
 use Rattle.machine.specs.Refused.{Unchanged}
 use Rattle.machine.proofs.Walk.{Steps, walk}
 use Rattle.machine.proofs.Refused.{refused}
-use Rattle.ledger.specs.Happening.{Happening}
-use Rattle.ledger.specs.Device.{deviceIn}
 use Rattle.ledger.specs.History.{Where, unbegun, running, waiting, shown, gone, isRunning, isPresent, begunIn, whereIs, delivered, abandoned, standing, lostSince}
 use Rattle.ledger.specs.Added.{history}
-use Rattle.ledger.specs.Copying.{FinishWaits, AwaitsCopied, endsCopying, NoneEnds, StandsUncopied}
-use Rattle.ledger.proofs.Tests.{or-true, and-left, and-right}
+use Rattle.ledger.specs.Copying.{FinishWaits, AwaitsCopied, endsCopying, EndsTheWait, NoneEnds, StandsUncopied}
+use Rattle.ledger.proofs.Tests.{or-true, and-left, and-right, passed}
 use Rattle.ledger.proofs.Control.{standing-idle}
 use Rattle.ledger.proofs.Tidy.{ended-device, ended-begun, delivered-begun}
 use Rattle.ledger.proofs.Kept.{kept}
 use Rattle.ledger.proofs.Theorems.{counts-are-true, standing-is-named}
 use Rattle.ledger.proofs.Numbers.{runs-in}
+use Rattle.ledger.proofs.Turn.{copies}
 use Rattle.ledger.proofs.Alive.{copying-now, after-append}
 
 -- ---- a finish waits
@@ -41,6 +41,36 @@ module _ (m : Machine) (c : m .device .copying ≡ true) (t p u : ℕ) where
 
 pub finish-waits : (es : List Event) → FinishWaits (after fresh es) (history es)
 finish-waits es = let now = copying-now es true in record { number-is = λ c. six (after fresh es) (now c); leaves-all = λ c. leaves (after fresh es) (now c) }
+
+-- ---- what ends the wait
+
+-- of a machine: one is running, and the calibration is being copied for it
+abbrev awaits : Machine → Bool
+awaits m = m .device .copying && runs (m .device .phase)
+
+ends-wait : (m : Machine) (e : Event) → endsCopying e ≡ true → isOpen (m .burst) ≡ false → awaits (next m e) ≡ false
+ends-wait m Power z o = refl
+ends-wait m Copied z o = ap awaits (copies m)
+ends-wait m (Write a v) z o =
+    let to = eqb-true a 0xE0 (and-left (eqb a 0xE0) (eqb v 0xB6) z) in
+    let word = eqb-true v 0xB6 (and-right (eqb a 0xE0) (eqb v 0xB6) z) in
+    rw (to, word) (ap (λ (x : Outcome). awaits (x .machine)) (passed (isOpen (m .burst)) (answered burstIsOpen m) (answered done (reset m)) o))
+ends-wait m (Finish t p u) z o = absurd (false≢true z)
+ends-wait m Wake z o = absurd (false≢true z)
+ends-wait m (Open a) z o = absurd (false≢true z)
+ends-wait m Byte z o = absurd (false≢true z)
+ends-wait m (Close n) z o = absurd (false≢true z)
+
+-- what the history says of the machine
+awaits-in : (es : List Event) → AwaitsCopied (history es) → awaits (after fresh es) ≡ true
+awaits-in es w = rw (copying-now es true (w .copying-now), runs-in (after fresh es) (history es) (kept es) ∙ w .runs-now)
+
+pub ends-the-wait : (es : List Event) (e : Event) → EndsTheWait (history es) (history (es ++ e ∷ [])) e
+ends-the-wait es e = record {
+  awaits-no-more = λ z o w.
+      let no-more = ap awaits (after-append fresh es (e ∷ [])) ∙ ends-wait (after fresh es) e z (kept es .right .open-is ∙ o) in
+      true≢false (sym (awaits-in (es ++ e ∷ []) w) ∙ no-more);
+}
 
 -- ---- what is never copied stands
 

@@ -132,7 +132,7 @@ wake-begins m p room =
 abbrev pub uncopying : Machine → Machine
 uncopying m = withDevice (withCopying false (m .device)) m
 
-copies : (m : Machine) → next m Copied ≡ uncopying m
+pub copies : (m : Machine) → next m Copied ≡ uncopying m
 copies m = at (m .device .copying) refl
   where
     at : (c : Bool) → m .device .copying ≡ c → next m Copied ≡ uncopying m

@@ -13,7 +13,7 @@ use Rattle.machine.specs.Event.{answer}
 use Rattle.machine.specs.Refused.{Unchanged}
 use Rattle.ledger.specs.Happening.{Happening, lost}
 use Rattle.ledger.specs.Device.{isConverting, deviceIn}
-use Rattle.ledger.specs.History.{Where, running, begunIn, whereIs, standing, abandoned}
+use Rattle.ledger.specs.History.{running, begunIn, openIn, whereIs, standing, abandoned}
 
 -- ---- a finish waits, after whatever history h that led to the machine m
 
@@ -39,6 +39,11 @@ endsCopying (Open a) = false
 endsCopying Byte = false
 endsCopying (Close n) = false
 
+-- Each of these ends the wait, the write where no burst is open: from the history h to g, which the event e led to.
+pub record EndsTheWait (h g : List Happening) (e : Event) : Type 0 where
+  pub awaits-no-more : endsCopying e ≡ true → openIn h ≡ false → AwaitsCopied g → ⊥
+
+-- Nothing else does.
 abbrev pub NoneEnds : List Event → Type 0
 NoneEnds [] = Unit {0}
 NoneEnds (e ∷ es) = (endsCopying e ≡ false) × NoneEnds es

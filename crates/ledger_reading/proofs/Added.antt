@@ -56,9 +56,10 @@ good-finish t p u h e =
     let run = passes (mayFinishIn h) 6 _ (omega arith) e in
     let fit = passes (ltb t 0x100000 && (ltb p 0x100000 && ltb u 0x10000)) 7 _ (omega arith) (run .1) in
     let x = both (ltb t 0x100000) (ltb p 0x100000 && ltb u 0x10000) (fit .0) in
-    let y = both (ltb p 0x100000) (ltb u 0x10000) (x .1) in
-    (both (isConverting (deviceIn h .phase)) (not (deviceIn h .copying)) (run .0) .0,
-    record { temperature = ltb-true t 0x100000 (x .0); pressure = ltb-true p 0x100000 (y .0); humidity = ltb-true u 0x10000 (y .1) })
+    let y = both (ltb p 0x100000) (ltb u 0x10000) (x .1) in (
+      both (isConverting (deviceIn h .phase)) (not (deviceIn h .copying)) (run .0) .0,
+      record { temperature = ltb-true t 0x100000 (x .0); pressure = ltb-true p 0x100000 (y .0); humidity = ltb-true u 0x10000 (y .1) },
+    )
 
 -- what a done event adds
 sound-adds : (h : List Happening) → Sound h → (e : Event) → WritesBytes (e ∷ []) → numberIn h e ≡ 0 → (v : ℕ) → Sound (adds h e v ++ h)
