@@ -155,12 +155,16 @@ kept-whole m h o w k = closes m (ended (delivering m)) h true o w (ended-device 
 took-idle : (d : Device) (v : ℕ) → runs (changes (tookF4 v) d .phase) ≡ false
 took-idle d v = pick (λ (p : Phase). runs p ≡ false) (asksNormal v && isStandby (d .phase)) (λ _. refl) (λ _. refl)
 
+-- what F4 with v adds, where one begins (b) or none
+abbrev taking : ℕ → Bool → List Happening
+taking v b = cond b (began ∷ changed (tookF4 v) ∷ []) (changed (tookF4 v) ∷ [])
+
 kept-effect : (m : Machine) (v : ℕ) (h : List Happening) → busy m ≡ false → isBarred (control.begins (m .device .phase) v) (m .ledger) ≡ false → Kept m h
     → Kept (effect m v) (takes h v ++ h)
 unfolding effect
 kept-effect m v h i f k =
     rw (← k .device-is)
-    (subst (λ (b : Bool). Kept (withDevice (control.controlled (m .device) v) (withLedger (begunIf b (m .ledger)) m)) (cond (beginsBy (m .device .phase) v) (began ∷ changed (tookF4 v) ∷ []) (changed (tookF4 v) ∷ []) ++ h))
+    (subst (λ (b : Bool). Kept (withDevice (control.controlled (m .device) v) (withLedger (begunIf b (m .ledger)) m)) (taking v (beginsBy (m .device .phase) v) ++ h))
     (sym (begins-is (m .device) v i)) (at (beginsBy (m .device .phase) v) refl))
   where
     set : Machine
@@ -169,8 +173,7 @@ kept-effect m v h i f k =
     set-kept : Kept set (changed (tookF4 v) ∷ h)
     set-kept = kept-changed (tookF4 v) m h (took-idle (m .device) v ∙ sym i) (λ u. absurd (true≢false (sym u ∙ i))) (λ _. refl) k
 
-    at : (b : Bool) → beginsBy (m .device .phase) v ≡ b
-        → Kept (withDevice (control.controlled (m .device) v) (withLedger (begunIf b (m .ledger)) m)) (cond b (began ∷ changed (tookF4 v) ∷ []) (changed (tookF4 v) ∷ []) ++ h)
+    at : (b : Bool) → beginsBy (m .device .phase) v ≡ b → Kept (withDevice (control.controlled (m .device) v) (withLedger (begunIf b (m .ledger)) m)) (taking v b ++ h)
     at true e = rw (takes-begun (m .device) v i e)
         (kept-began set (changed (tookF4 v) ∷ h) (took-idle (m .device) v) (leb-false reg.mostBegun (m .ledger .begun) (rw (begins-is (m .device) v i, e) at f)) set-kept)
     at false e = rw (takes-else (m .device) v i e) set-kept
