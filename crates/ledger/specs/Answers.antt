@@ -48,7 +48,7 @@ ignoresWrite h a v =
 abbrev pub beginsWrite : List Happening → ℕ → ℕ → Bool
 beginsWrite h a v = eqb a 0xF4 && (not (isConverting (phaseIn h)) && beginsBy (phaseIn h) v)
 
--- F2, F4 and F5 may be written but where something is being copied and no conversion is running
+-- F2, F4 and F5 may be written except where something is being copied and no conversion is running
 abbrev pub mayWriteIn : List Happening → Bool
 mayWriteIn h = not (deviceIn h .copying && not (isConverting (phaseIn h)))
 

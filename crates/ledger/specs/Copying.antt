@@ -2,8 +2,8 @@
 -- finished: it runs and stands until a reset or power event, which abandons it (proofs/Copying.antt).
 use Prim.Native.Nat.{ℕ}
 use mathlib.Core.Path.{_≡_}
-use mathlib.Core.Bool.{Bool, true, false, _&&_}
-use mathlib.Core.List.{List, [], _∷_}
+use mathlib.Core.Bool.{Bool, true, false, not, _&&_}
+use mathlib.Core.List.{List, [], _∷_, _++_}
 use lib.Dec.{eqb}
 use Rattle.paper.specs.Numbers.{wrongPhase}
 use Rattle.machine.specs.declared.Machine.{Machine}
@@ -13,6 +13,7 @@ use Rattle.machine.specs.Event.{answer}
 use Rattle.machine.specs.Refused.{Unchanged}
 use Rattle.ledger.specs.Happening.{Happening, lost}
 use Rattle.ledger.specs.Device.{isConverting, deviceIn}
+use Rattle.ledger.specs.Added.{history}
 use Rattle.ledger.specs.History.{running, begunIn, openIn, whereIs, standing, abandoned}
 
 -- ---- a finish waits, after whatever history h that led to the machine m
@@ -28,25 +29,25 @@ pub record AwaitsCopied (h : List Happening) : Type 0 where
   pub runs-now : isConverting (deviceIn h .phase) ≡ true
   pub copying-now : deviceIn h .copying ≡ true
 
--- copied, power, and the reset word written to E0
-abbrev pub endsCopying : Event → Bool
-endsCopying Power = true
-endsCopying Copied = true
-endsCopying (Write a v) = eqb a 0xE0 && eqb v 0xB6
-endsCopying (Finish t p u) = false
-endsCopying Wake = false
-endsCopying (Open a) = false
-endsCopying Byte = false
-endsCopying (Close n) = false
+-- copied, power, and the reset word written to E0 unless a burst is open (o)
+abbrev pub endsWait : Bool → Event → Bool
+endsWait o Power = true
+endsWait o Copied = true
+endsWait o (Write a v) = not o && (eqb a 0xE0 && eqb v 0xB6)
+endsWait o (Finish t p u) = false
+endsWait o Wake = false
+endsWait o (Open a) = false
+endsWait o Byte = false
+endsWait o (Close n) = false
 
--- Each of these ends the wait, the write where no burst is open: from the history h to g, which the event e led to.
+-- Each of these ends the wait: from the history h to g, which the event e led to.
 pub record EndsTheWait (h g : List Happening) (e : Event) : Type 0 where
-  pub awaits-no-more : endsCopying e ≡ true → openIn h ≡ false → AwaitsCopied g → ⊥
+  pub awaits-no-more : endsWait (openIn h) e ≡ true → AwaitsCopied g → ⊥
 
--- Nothing else does.
-abbrev pub NoneEnds : List Event → Type 0
-NoneEnds [] = Unit {0}
-NoneEnds (e ∷ es) = (endsCopying e ≡ false) × NoneEnds es
+-- Nothing else does. After the events es, none of fs is one that would.
+abbrev pub NoneEnds : List Event → List Event → Type 0
+NoneEnds es [] = Unit {0}
+NoneEnds es (f ∷ fs) = (endsWait (openIn (history es)) f ≡ false) × NoneEnds (es ++ f ∷ []) fs
 
 -- From the history h to a later one g: none has begun since, the last one still runs and stands, and what comes to reset it abandons it.
 pub record StandsUncopied (h g : List Happening) : Type 0 where
