@@ -119,7 +119,7 @@ enum {
 #define ONEGRISH_CHIP_ID 0x60       /* what the chip id register gives */
 #define ONEGRISH_RESET_WORD 0xB6    /* what the reset register takes */
 #define ONEGRISH_STATUS_RUNNING 8   /* bits of the status register: a conversion runs */
-#define ONEGRISH_STATUS_COPYING 1   /* calibration is being copied: after a reset, and at the start of each conversion */
+#define ONEGRISH_STATUS_COPYING 1   /* calibration is being copied: after power or a reset, and at the start of each conversion */
 #define ONEGRISH_CODE_SKIPPED 0     /* oversampling codes: 1 to 5 mean 1, 2, 4, 8 and 16 samples; 6 and 7 mean 16 too */
 #define ONEGRISH_CODE_1 1
 #define ONEGRISH_CODE_2 2
@@ -259,7 +259,8 @@ uint8_t onegrish_maximum_wait(uint8_t t, uint8_t p, uint8_t h, uint32_t *microse
 uint8_t onegrish_typical_wait(uint8_t t, uint8_t p, uint8_t h, uint32_t *microseconds);
 
 /* The place of the first ready status byte, one with bits 3 and 0 clear, among as many as the allowance lets be read.
- * A conversion that has begun shows both, then bit 3 alone, and neither once it has finished.
+ * A conversion sets both when it begins, bit 0 clears when the calibration is copied, and bit 3 when it finishes;
+ * one that begins at once after it, by an F4 that was held, sets both again.
  * ONEGRISH_NEVER_READY: there is none.  ONEGRISH_DONE. */
 uint8_t onegrish_poll(const uint8_t *status, size_t status_length, size_t allowance, size_t *place);
 

@@ -28,13 +28,14 @@ use Rattle.ledger.specs.Device.{deviceIn}
 use Rattle.ledger.specs.History.{begunIn, openIn}
 use Rattle.ledger.specs.Added.{added, addedAfter, history}
 use Rattle.ledger.specs.Alive.{Turn, Fits, IsForced, codesOf, byWrite, byWake, measured, Begins, Delivers, MayBeginByWrite, WriteRunsTruly, MayBeginByWake, WakeRunsTruly}
-use Rattle.ledger.specs.Alive.{MayWriteInStandby, LatchRunsTruly}
+use Rattle.ledger.specs.Alive.{LatchRunsTruly}
 use Rattle.ledger.proofs.Book.{nonzero-pos}
 use Rattle.ledger.proofs.Right.{none-waits}
 use Rattle.ledger.proofs.Laid.{lays}
 use Rattle.ledger.proofs.Kept.{kept}
 use Rattle.ledger.proofs.Theorems.{counts-are-true}
 use Rattle.ledger.proofs.Tests.{passed}
+use Rattle.ledger.proofs.Calm.{calm}
 use Rattle.ledger.proofs.Turn.{begun, controlledBy, uncopying, mode-runs, write-begins, write-latches, wake-begins, read-from, closes}
 
 -- ---- the close of a turn
@@ -143,11 +144,10 @@ module _ (es : List Event) where
   write-runs-truly t f a = writes Sleep refl t f (mode-runs Sleep (t .f4) (a .asks) (λ _. refl))
       (phase-now Sleep (a .sleeps)) (copying-now false (a .not-copying)) (closed-now (a .none-open)) (room-now (a .has-room))
 
-  pub standby-runs-truly : (t : Turn) → Fits t → IsForced t → MayWriteInStandby h → WriteRunsTruly now t
+  pub standby-runs-truly : (t : Turn) → Fits t → IsForced t → MayBeginByWake h → WriteRunsTruly now t
   standby-runs-truly t f i a =
-      let w = a .may-wake in
-      writes Standby refl t f (mode-runs Standby (t .f4) (i .not-sleep) (λ e. absurd (i .not-normal e)))
-      (phase-now Standby (w .stands-by)) (copying-now false (a .not-copying)) (closed-now (w .none-open)) (room-now (w .has-room))
+      let y = phase-now Standby (a .stands-by) in
+      writes Standby refl t f (mode-runs Standby (t .f4) (i .not-sleep) (λ e. absurd (i .not-normal e))) y (calm es y) (closed-now (a .none-open)) (room-now (a .has-room))
 
   -- normal, by a wake, with the codes that the history has latched
   pub wake-runs-truly : (t : Turn) → Fits t → MayBeginByWake h → WakeRunsTruly now (deviceIn h .codes) t
@@ -165,15 +165,14 @@ module _ (es : List Event) where
       }
 
   -- normal, by a wake after a write in standby
-  pub latch-runs-truly : (t : Turn) → Fits t → t .f4 % 4 ≡ 3 → MayWriteInStandby h → LatchRunsTruly now t
+  pub latch-runs-truly : (t : Turn) → Fits t → t .f4 % 4 ≡ 3 → MayBeginByWake h → LatchRunsTruly now t
   latch-runs-truly t f i a =
-      let w = a .may-wake in
-      let l = room-now (w .has-room) in
-      let y = phase-now Standby (w .stands-by) in
-      let o = closed-now (w .none-open) in
+      let l = room-now (a .has-room) in
+      let y = phase-now Standby (a .stands-by) in
+      let o = closed-now (a .none-open) in
       let s : phaseAfter Standby (t .f4) ≡ Standby = rw i in
       let k : Machine = withDevice (controlledBy t (now .device)) now in
-      let k-is : after now (byWrite t) ≡ k = write-latches now t Standby refl (ap runs s) y (copying-now false (a .not-copying)) o in
+      let k-is : after now (byWrite t) ≡ k = write-latches now t Standby refl (ap runs s) y (calm es y) o in
       let stands-by : k .device .phase ≡ Standby = rw y s in
       let e : after now (byWrite t ++ byWake) ≡ awake k = ap (λ (k : Machine). after k byWake) k-is ∙ wake-begins k stands-by l in
       record {
@@ -189,7 +188,7 @@ pub after-append : (m : Machine) (es fs : List Event) → after m (es ++ fs) ≡
 after-append m [] fs = refl
 after-append m (e ∷ es) fs = after-append (next m e) es fs
 
-added-append : (m : Machine) (h : List Happening) (es fs : List Event) → addedAfter m h (es ++ fs) ≡ addedAfter (after m es) (addedAfter m h es) fs
+pub added-append : (m : Machine) (h : List Happening) (es fs : List Event) → addedAfter m h (es ++ fs) ≡ addedAfter (after m es) (addedAfter m h es) fs
 added-append m h [] fs = refl
 added-append m h (e ∷ es) fs = added-append (next m e) (added (answer m e) h e (byteGiven m .value) ++ h) es fs
 

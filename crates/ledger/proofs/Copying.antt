@@ -7,28 +7,30 @@ use native.Mathlib.Omega.{arith}
 use lib.Dec.{eqb}
 use borrow.Author.Tests.{eq-eqb, eqb-true, not-true}
 use Rattle.paper.specs.Numbers.{done, burstIsOpen, wrongPhase}
-use Rattle.machine.specs.declared.Device.{Device}
 use Rattle.machine.specs.declared.Machine.{Machine}
 use Rattle.machine.specs.declared.Outcome.{Outcome}
 use Rattle.machine.specs.declared.Event.{Event}
 use Rattle.machine.specs.declared.Event.the-variants.{Power, Copied, Write, Finish, Wake, Open, Byte, Close}
 use Rattle.machine.specs.State.{fresh, runs, isOpen, isUnread}
-use Rattle.machine.specs.Events.{answered, reset, delivering, ended}
-use Rattle.machine.specs.Event.{next, answer, after}
+use Rattle.machine.specs.Events.{answered, reset, byteGiven, delivering, ended}
+use Rattle.machine.specs.Event.{stepped, next, answer, after}
 use Rattle.machine.specs.Refused.{Unchanged}
 use Rattle.machine.proofs.Walk.{Steps, walk}
 use Rattle.machine.proofs.Refused.{refused}
-use Rattle.ledger.specs.History.{Where, unbegun, running, waiting, shown, gone, isRunning, isPresent, begunIn, whereIs, delivered, abandoned, standing, lostSince}
-use Rattle.ledger.specs.Added.{history}
-use Rattle.ledger.specs.Copying.{FinishWaits, AwaitsCopied, endsWait, EndsTheWait, NoneEnds, StandsUncopied}
+use Rattle.ledger.specs.Happening.{Happening, lost}
+use Rattle.ledger.specs.Device.{isConverting, deviceIn}
+use Rattle.ledger.specs.History.{Where, openIn, unbegun, running, waiting, shown, gone, isRunning, isPresent, begunIn, whereIs, delivered, abandoned, standing, lostSince}
+use Rattle.ledger.specs.Added.{adds, history}
+use Rattle.ledger.specs.Copying.{FinishWaits, StandbyIsCopied, awaitsCopied, endsWait, EndsTheWait, NoneEnds, StandsUncopied}
 use Rattle.ledger.proofs.Tests.{or-true, and-left, and-right, passed}
-use Rattle.ledger.proofs.Control.{standing-idle}
+use Rattle.ledger.proofs.Control.{runs-is, standing-idle}
 use Rattle.ledger.proofs.Tidy.{ended-device, ended-begun, delivered-begun}
 use Rattle.ledger.proofs.Kept.{kept}
 use Rattle.ledger.proofs.Theorems.{counts-are-true, standing-is-named}
 use Rattle.ledger.proofs.Numbers.{runs-in}
 use Rattle.ledger.proofs.Turn.{copies}
-use Rattle.ledger.proofs.Alive.{copying-now, after-append}
+use Rattle.ledger.proofs.Calm.{calm}
+use Rattle.ledger.proofs.Alive.{copying-now, after-append, added-append}
 
 -- ---- a finish waits
 
@@ -42,36 +44,40 @@ module _ (m : Machine) (c : m .device .copying ≡ true) (t p u : ℕ) where
 pub finish-waits : (es : List Event) → FinishWaits (after fresh es) (history es)
 finish-waits es = let now = copying-now es true in record { number-is = λ c. six (after fresh es) (now c); leaves-all = λ c. leaves (after fresh es) (now c) }
 
+pub standby-is-copied : (es : List Event) → StandbyIsCopied (after fresh es)
+standby-is-copied es = record { not-copying = calm es }
+
 -- ---- what ends the wait
 
--- of a machine: one is running, and the calibration is being copied for it
-abbrev awaits : Machine → Bool
-awaits m = m .device .copying && runs (m .device .phase)
+-- the reset word written to E0 while no burst is open
+module _ (m : Machine) (a v : ℕ) (z : not (isOpen (m .burst)) && (eqb a 0xE0 && eqb v 0xB6) ≡ true) where
+  no-burst : isOpen (m .burst) ≡ false
+  no-burst = not-true (isOpen (m .burst)) (and-left (not (isOpen (m .burst))) (eqb a 0xE0 && eqb v 0xB6) z)
 
-ends-wait : (m : Machine) (e : Event) → endsWait (isOpen (m .burst)) e ≡ true → awaits (next m e) ≡ false
+  is-word : eqb a 0xE0 && eqb v 0xB6 ≡ true
+  is-word = and-right (not (isOpen (m .burst))) (eqb a 0xE0 && eqb v 0xB6) z
+
+  by-word : stepped m (Write a v) ≡ answered done (reset m)
+  by-word =
+      rw (eqb-true a 0xE0 (and-left (eqb a 0xE0) (eqb v 0xB6) is-word), eqb-true v 0xB6 (and-right (eqb a 0xE0) (eqb v 0xB6) is-word))
+      (passed (isOpen (m .burst)) (answered burstIsOpen m) (answered done (reset m)) no-burst)
+
+ends-wait : (m : Machine) (e : Event) → endsWait (isOpen (m .burst)) e ≡ true → awaitsCopied (next m e .device) ≡ false
 ends-wait m Power z = refl
-ends-wait m Copied z = ap awaits (copies m)
-ends-wait m (Write a v) z =
-    let no-burst = not-true (isOpen (m .burst)) (and-left (not (isOpen (m .burst))) (eqb a 0xE0 && eqb v 0xB6) z) in
-    let resets = and-right (not (isOpen (m .burst))) (eqb a 0xE0 && eqb v 0xB6) z in
-    rw (eqb-true a 0xE0 (and-left (eqb a 0xE0) (eqb v 0xB6) resets), eqb-true v 0xB6 (and-right (eqb a 0xE0) (eqb v 0xB6) resets))
-    (ap (λ (x : Outcome). awaits (x .machine)) (passed (isOpen (m .burst)) (answered burstIsOpen m) (answered done (reset m)) no-burst))
+ends-wait m Copied z = ap (λ (k : Machine). awaitsCopied (k .device)) (copies m)
+ends-wait m (Write a v) z = ap (λ (x : Outcome). awaitsCopied (x .machine .device)) (by-word m a v z)
 ends-wait m (Finish t p u) z = absurd (false≢true z)
 ends-wait m Wake z = absurd (false≢true z)
 ends-wait m (Open a) z = absurd (false≢true z)
 ends-wait m Byte z = absurd (false≢true z)
 ends-wait m (Close n) z = absurd (false≢true z)
 
--- what the history says of the machine
-awaits-in : (es : List Event) → AwaitsCopied (history es) → awaits (after fresh es) ≡ true
-awaits-in es w = rw (copying-now es true (w .copying-now), runs-in (after fresh es) (history es) (kept es) ∙ w .runs-now)
+-- the burst that is open is the history's
+asked : (es : List Event) (e : Event) → endsWait (isOpen (after fresh es .burst)) e ≡ endsWait (openIn (history es)) e
+asked es e = ap (λ (o : Bool). endsWait o e) (kept es .right .open-is)
 
-pub ends-the-wait : (es : List Event) (e : Event) → EndsTheWait (history es) (history (es ++ e ∷ [])) e
-ends-the-wait es e = record {
-  awaits-no-more = λ z w.
-      let no-more = ap awaits (after-append fresh es (e ∷ [])) ∙ ends-wait (after fresh es) e (ap (λ (o : Bool). endsWait o e) (kept es .right .open-is) ∙ z) in
-      true≢false (sym (awaits-in (es ++ e ∷ []) w) ∙ no-more);
-}
+pub ends-the-wait : (es : List Event) (e : Event) → EndsTheWait (after fresh es) (history es) e
+ends-the-wait es e = record { awaits-no-more = λ z. ends-wait (after fresh es) e (asked es e ∙ z) }
 
 -- ---- what is never copied stands
 
@@ -118,7 +124,7 @@ goes-on es [] u c z = same (after fresh es) _ u c (ap (λ (m : Machine). m .devi
 goes-on es (f ∷ fs) u c z =
     let one = after-append fresh es (f ∷ []) in
     let rest = after-append fresh (es ++ f ∷ []) fs ∙ ap (λ (m : Machine). after m fs) one ∙ sym (after-append fresh es (f ∷ fs)) in
-    let first = walk Stays stays (after fresh es) f u c (ap (λ (o : Bool). endsWait o f) (kept es .right .open-is) ∙ z .0) in
+    let first = walk Stays stays (after fresh es) f u c (asked es f ∙ z .0) in
     let g : GoesOn (after fresh es) (after fresh (es ++ f ∷ [])) = subst (GoesOn (after fresh es)) (sym one) first in
     subst (GoesOn (after fresh es)) rest (then g (goes-on (es ++ f ∷ []) fs (g .runs-now) (g .copying-now) (z .1)))
 
@@ -129,25 +135,32 @@ is-running waiting e = absurd (false≢true e)
 is-running shown e = absurd (false≢true e)
 is-running gone e = absurd (false≢true e)
 
-pub stands-uncopied : (es fs : List Event) → AwaitsCopied (history es) → NoneEnds es fs → StandsUncopied (history es) (history (es ++ fs))
+-- what a reset or power event adds
+lost-after : (es : List Event) (e : Event) → answer (after fresh es) e ≡ done → adds (history es) e (byteGiven (after fresh es) .value) ≡ lost ∷ []
+    → history (es ++ e ∷ []) ≡ lost ∷ history es
+lost-after es e d a = added-append fresh [] es (e ∷ []) ∙ rw (d, a)
+
+pub stands-uncopied : (es fs : List Event) → awaitsCopied (deviceIn (history es)) ≡ true → NoneEnds es fs → StandsUncopied es fs
 stands-uncopied es fs w z =
     let m = after fresh es in
     let n = after fresh (es ++ fs) in
     let k = begunIn (history es) in
     let g = history (es ++ fs) in
-    let on = goes-on es fs (runs-in m (history es) (kept es) ∙ w .runs-now) (copying-now es true (w .copying-now)) z in
+    let d = deviceIn (history es) in
+    let on = goes-on es fs (runs-in m (history es) (kept es) ∙ and-right (d .copying) (isConverting (d .phase)) w) (copying-now es true (and-left (d .copying) (isConverting (d .phase)) w)) z in
     let begun : n .ledger .begun ≡ k = on .begun-is ∙ counts-are-true es .begun-is in
     let named = standing-is-named (es ++ fs) in
     let runs-on : isRunning (whereIs g k) ≡ true = named .running-is k ∙ rw (on .runs-now, begun, eq-eqb k k refl) in
     let stands : standing g k ≡ true = named .standing-is k ∙ rw runs-on in
     let free : not (delivered g k) ≡ true = and-left (not (delivered g k)) (not (lostSince g k)) (and-right (isPresent (whereIs g k)) (not (delivered g k) && not (lostSince g k)) stands) in
+    let lost-one : abandoned (lost ∷ g) k ≡ true = rw (is-running (whereIs g k) runs-on, free) (or-true (abandoned g k)) in
     record {
-      awaits = record {
-        runs-now = sym (runs-in n g (kept (es ++ fs))) ∙ on .runs-now;
-        copying-now = sym (ap (λ (d : Device). d .copying) (kept (es ++ fs) .device-is)) ∙ on .copying-now;
-      };
-      begun-is = sym (counts-are-true (es ++ fs) .begun-is) ∙ begun;
+      awaits-still = rw (on .copying-now, ← runs-is (n .device .phase), on .runs-now);
+      begun-is = begun;
       running-is = is-running (whereIs g k) runs-on;
       standing-is = stands;
-      lost-abandons = rw (is-running (whereIs g k) runs-on, free) (or-true (abandoned g k));
+      power-abandons = subst (λ (l : List Happening). abandoned l k ≡ true) (sym (lost-after (es ++ fs) Power refl refl)) lost-one;
+      reset-abandons = λ o.
+          let d = passed (isOpen (n .burst)) (answered burstIsOpen n) (answered done (reset n)) (kept (es ++ fs) .right .open-is ∙ o) in
+          subst (λ (l : List Happening). abandoned l k ≡ true) (sym (lost-after (es ++ fs) (Write 0xE0 0xB6) (ap (λ (x : Outcome). x .answer) d) refl)) lost-one;
     }

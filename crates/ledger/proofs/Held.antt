@@ -57,7 +57,7 @@ module _ (es : List Event) (s t : Turn) (g : Fits s) (f : Fits t) (a : MayHold (
   room : now .ledger .begun < reg.mostBegun
   room = room-now es (a .has-room)
 
-  -- once it is copied
+  -- once copying has ended
   abbrev k : Machine
   k = uncopying (holding now t)
 

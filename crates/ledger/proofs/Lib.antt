@@ -16,6 +16,7 @@ pub mod Numbers
 pub mod Registers
 pub mod Outcomes
 pub mod Theorems
+pub mod Calm
 pub mod Turn
 pub mod Alive
 pub mod Copying

@@ -127,7 +127,7 @@ wake-begins m p room =
     ap (λ (q : Phase). next (withDevice (withPhase q (m .device)) m) Wake) p
     ∙ ap (λ (o : Outcome). o .machine) (passed (isBarred true (m .ledger)) (answered allBegun _) (answered done (awake m)) (lt-leb reg.mostBegun (m .ledger .begun) room))
 
--- ---- the calibration is copied for it, or was: it finishes and is read
+-- ---- copying ends, unless it has already: it finishes and is read
 
 abbrev pub uncopying : Machine → Machine
 uncopying m = withDevice (withCopying false (m .device)) m

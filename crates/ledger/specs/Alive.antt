@@ -1,5 +1,5 @@
--- A dead machine does not pass, though the sum alone would let it: whatever came before, the next conversion begins, finishes with its own bytes once the
--- calibration is copied for it, is shown under its own number, and is counted, in forced mode and in normal mode, for any codes and counts (proofs/Alive.antt, proofs/Held.antt, proofs/Turns.antt).
+-- A dead machine does not pass, though the sum alone would let it: whatever came before, the next conversion begins, finishes with its own bytes once
+-- copying has ended, is shown under its own number, and is counted, in forced mode and in normal mode, for any codes and counts (proofs/Alive.antt, proofs/Held.antt, proofs/Turns.antt).
 use Prim.Native.Nat.{ℕ, zero, suc, _+_, _%_, _<_}
 use mathlib.Core.Path.{_≡_}
 use mathlib.Core.Bool.{true, false}
@@ -59,7 +59,7 @@ byWrite t = Write 0xF2 (t .f2) ∷ Write 0xF4 (t .f4) ∷ []
 abbrev pub byWake : List Event
 byWake = Wake ∷ []
 
--- the calibration is copied for it, and it finishes
+-- copying ends, and it finishes
 abbrev pub finish : Turn → List Event
 finish t = Copied ∷ Finish (t .temperature) (t .pressure) (t .humidity) ∷ []
 
@@ -69,7 +69,7 @@ measured t =
     finish t
     ++ Open 0xF7 ∷ Byte ∷ Byte ∷ Byte ∷ Byte ∷ Byte ∷ Byte ∷ Byte ∷ Byte ∷ []
 
--- one more has begun than in m, and runs, with the codes c and the calibration being copied
+-- one more has begun than in m, and runs, with the codes c, while the calibration is being copied
 pub record Begins (m now : Machine) (c : Codes) : Type 0 where
   pub begun-is : now .ledger .begun ≡ m .ledger .begun + 1
   pub runs-now : isConverting (now .device .phase) ≡ true
@@ -114,12 +114,7 @@ pub record WakeRunsTruly (m : Machine) (c : Codes) (t : Turn) : Type 0 where
   pub delivers : let x = closed (after m (byWake ++ measured t)) (t .lent) in
       Delivers (m .ledger .begun + 1) (m .ledger .delivered + 1) c t (x .0) (x .1)
 
--- F4 in standby, with nothing being copied
-pub record MayWriteInStandby (h : List Happening) : Type 0 where
-  pub may-wake : MayBeginByWake h
-  pub not-copying : deviceIn h .copying ≡ false
-
--- mode 3 leaves the standby running and begins nothing, and the next wake begins with its codes; modes 1 and 2 begin as they do in sleep
+-- F4 in standby: mode 3 leaves the standby running and begins nothing, and the next wake begins with its codes; modes 1 and 2 begin as they do in sleep
 pub record LatchRunsTruly (m : Machine) (t : Turn) : Type 0 where
   pub stands-by : after m (byWrite t) .device .phase ≡ Standby
   pub none-begins : after m (byWrite t) .ledger ≡ m .ledger
@@ -129,7 +124,7 @@ pub record LatchRunsTruly (m : Machine) (t : Turn) : Type 0 where
 
 -- ---- F4 during a conversion is held, and takes effect when that one finishes
 
--- one is running, none is held, no burst is open, and there is room for one more; whether the calibration is still being copied or not
+-- one is running, none is held, no burst is open, and there is room for one more; the calibration may still be being copied or not
 pub record MayHold (h : List Happening) : Type 0 where
   pub runs-now : isConverting (deviceIn h .phase) ≡ true
   pub none-held : deviceIn h .held ≡ Nothing
@@ -146,11 +141,12 @@ pub record LatchesHeld (h : List Happening) (t : Turn) : Type 0 where
   pub normal : t .f4 % 4 ≡ 3
   pub from-normal : deviceIn h .phase ≡ Normal
 
--- the write begins nothing, and leaves the running one its codes; then the running one finishes with the counts of s
+-- the write begins nothing, and leaves the running one its codes
 pub record IsHeld (m : Machine) (t : Turn) : Type 0 where
   pub none-begins : after m (byWrite t) .ledger ≡ m .ledger
   pub codes-stay : after m (byWrite t) .device .codes ≡ m .device .codes
 
+-- then the running one finishes with the counts of s
 pub record HeldRunsTruly (m : Machine) (s t : Turn) : Type 0 where
   pub is-held : IsHeld m t
   pub begins : Begins m (after m (byWrite t ++ finish s)) (codesOf t)

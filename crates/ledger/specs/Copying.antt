@@ -1,17 +1,20 @@
--- What copying holds up. While it goes on, each finish is refused with 6 and changes nothing. So a conversion for which the calibration is never copied is not
--- finished: it runs and stands until a reset or power event, which abandons it (proofs/Copying.antt).
+-- What copying holds up. While it goes on, each finish is refused with 6 and changes nothing. So a conversion whose calibration is never copied is not finished:
+-- it runs and stands until a reset or power event, which abandons it (proofs/Copying.antt).
 use Prim.Native.Nat.{ℕ}
 use mathlib.Core.Path.{_≡_}
 use mathlib.Core.Bool.{Bool, true, false, not, _&&_}
 use mathlib.Core.List.{List, [], _∷_, _++_}
 use lib.Dec.{eqb}
 use Rattle.paper.specs.Numbers.{wrongPhase}
+use Rattle.machine.specs.declared.Phase.the-variants.{Standby}
+use Rattle.machine.specs.declared.Device.{Device}
 use Rattle.machine.specs.declared.Machine.{Machine}
 use Rattle.machine.specs.declared.Event.{Event}
 use Rattle.machine.specs.declared.Event.the-variants.{Power, Copied, Write, Finish, Wake, Open, Byte, Close}
-use Rattle.machine.specs.Event.{answer}
+use Rattle.machine.specs.State.{fresh}
+use Rattle.machine.specs.Event.{next, answer, after}
 use Rattle.machine.specs.Refused.{Unchanged}
-use Rattle.ledger.specs.Happening.{Happening, lost}
+use Rattle.ledger.specs.Happening.{Happening}
 use Rattle.ledger.specs.Device.{isConverting, deviceIn}
 use Rattle.ledger.specs.Added.{history}
 use Rattle.ledger.specs.History.{running, begunIn, openIn, whereIs, standing, abandoned}
@@ -22,12 +25,16 @@ pub record FinishWaits (m : Machine) (h : List Happening) : Type 0 where
   pub number-is : deviceIn h .copying ≡ true → (t p u : ℕ) → answer m (Finish t p u) ≡ wrongPhase
   pub leaves-all : deviceIn h .copying ≡ true → (t p u : ℕ) → Unchanged m (Finish t p u)
 
--- ---- what is never copied stands
+-- and so no standby is copying
 
--- one is running, and the calibration is being copied for it
-pub record AwaitsCopied (h : List Happening) : Type 0 where
-  pub runs-now : isConverting (deviceIn h .phase) ≡ true
-  pub copying-now : deviceIn h .copying ≡ true
+pub record StandbyIsCopied (m : Machine) : Type 0 where
+  pub not-copying : m .device .phase ≡ Standby → m .device .copying ≡ false
+
+-- ---- what ends the wait
+
+-- the calibration is being copied, and a conversion is running
+abbrev pub awaitsCopied : Device → Bool
+awaitsCopied d = d .copying && isConverting (d .phase)
 
 -- copied, power, and the reset word written to E0 unless a burst is open (o)
 abbrev pub endsWait : Bool → Event → Bool
@@ -40,19 +47,22 @@ endsWait o (Open a) = false
 endsWait o Byte = false
 endsWait o (Close n) = false
 
--- Each of these ends the wait: from the history h to g, which the event e led to.
-pub record EndsTheWait (h g : List Happening) (e : Event) : Type 0 where
-  pub awaits-no-more : endsWait (openIn h) e ≡ true → AwaitsCopied g → ⊥
+-- each of these does
+pub record EndsTheWait (m : Machine) (h : List Happening) (e : Event) : Type 0 where
+  pub awaits-no-more : endsWait (openIn h) e ≡ true → awaitsCopied (next m e .device) ≡ false
 
--- Nothing else does. After the events es, none of fs is one that would.
+-- ---- nothing else does: what is never copied stands
+
+-- after the events es, none of fs is one that would
 abbrev pub NoneEnds : List Event → List Event → Type 0
 NoneEnds es [] = Unit {0}
 NoneEnds es (f ∷ fs) = (endsWait (openIn (history es)) f ≡ false) × NoneEnds (es ++ f ∷ []) fs
 
--- From the history h to a later one g: none has begun since, the last one still runs and stands, and what comes to reset it abandons it.
-pub record StandsUncopied (h g : List Happening) : Type 0 where
-  pub awaits : AwaitsCopied g
-  pub begun-is : begunIn g ≡ begunIn h
-  pub running-is : whereIs g (begunIn h) ≡ running
-  pub standing-is : standing g (begunIn h) ≡ true
-  pub lost-abandons : abandoned (lost ∷ g) (begunIn h) ≡ true
+-- None has begun since es. The last one still runs, waits and stands, and power or a reset abandons it.
+pub record StandsUncopied (es fs : List Event) : Type 0 where
+  pub awaits-still : awaitsCopied (after fresh (es ++ fs) .device) ≡ true
+  pub begun-is : after fresh (es ++ fs) .ledger .begun ≡ begunIn (history es)
+  pub running-is : whereIs (history (es ++ fs)) (begunIn (history es)) ≡ running
+  pub standing-is : standing (history (es ++ fs)) (begunIn (history es)) ≡ true
+  pub power-abandons : abandoned (history ((es ++ fs) ++ Power ∷ [])) (begunIn (history es)) ≡ true
+  pub reset-abandons : openIn (history (es ++ fs)) ≡ false → abandoned (history ((es ++ fs) ++ Write 0xE0 0xB6 ∷ [])) (begunIn (history es)) ≡ true

@@ -66,7 +66,7 @@ changes (heldF4 v) d = record { phase = d .phase; copying = d .copying; f2 = d .
 changes (tookF4 v) d =
     record { phase = cond (asksNormal v && isStandby (d .phase)) Standby Sleep; copying = d .copying; f2 = d .f2; f4 = v; f5 = d .f5; held = byte.Nothing; codes = codesBy v (d .f2) }
 
--- a conversion begins: normal in standby, and in sleep as F4 asks; the calibration is copied for it
+-- a conversion begins: normal in standby, and in sleep as F4 asks; the copying of the calibration starts
 abbrev pub begins : Device → Device
 begins d = record {
   phase = cond (isStandby (d .phase) || asksNormal (d .f4)) Normal Forced;

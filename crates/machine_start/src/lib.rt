@@ -1,4 +1,4 @@
-// The fresh states, reset, and the two events of a start: power, and copied.
+// The fresh states, reset, and the events power and copied.
 ghost use mathlib.Core.Path.{_≡_};
 ghost use Rattle.machine.specs.State as state;
 ghost use Rattle.machine.specs.Events as ev;

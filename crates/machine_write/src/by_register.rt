@@ -115,7 +115,7 @@ fn may_write(d: Device) -> bool
     !d.copying | machine_state::is_running(phase)
 }
 
-// F2, F5 and F4, once the calibration is copied and during a conversion.
+// F2, F5 and F4, where nothing is being copied or a conversion is running.
 pub fn write_control(m: Machine, register: u8, value: u8) -> Outcome
     ensures { λ r. ⌜ r ≡ ev.writtenControl m register value ⌝ }
 {

@@ -1,4 +1,4 @@
--- `cycles::forced::copy_written` meets its contract: an F4 that could not be written ends the cycle; any other has begun a conversion, for which the calibration is copied.
+-- `cycles::forced::copy_written` meets its contract: an F4 that could not be written ends the cycle; after any other the copied event comes.
 use mathlib.Core.Path.{ap, _∙_}
 use borrow.Author.Needs.{needs}
 use Rattle.laws.specs.Cases.{eq-yes, eq-no}
