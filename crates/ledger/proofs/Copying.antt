@@ -1,11 +1,12 @@
 -- A finish waits for a copied event; and a conversion that gets none runs on, whatever else comes.
 use Prim.Native.Nat.{ℕ}
 use mathlib.Core.Path.{_≡_, refl, sym, ap, _∙_, subst}
-use mathlib.Core.Bool.{Bool, true, false, not, _&&_, false≢true, true≢false}
+use mathlib.Core.Bool.{Bool, true, false, not, _&&_, or-true, false≢true, true≢false}
 use mathlib.Core.List.{List, [], _∷_, _++_}
 use native.Mathlib.Omega.{arith}
 use lib.Dec.{eqb}
 use borrow.Author.Tests.{eq-eqb, eqb-true, not-true}
+use Rattle.laws.specs.Tests.{both}
 use Rattle.paper.specs.Numbers.{done, burstIsOpen, wrongPhase}
 use Rattle.machine.specs.declared.Machine.{Machine}
 use Rattle.machine.specs.declared.Outcome.{Outcome}
@@ -22,7 +23,7 @@ use Rattle.ledger.specs.Device.{isConverting, deviceIn}
 use Rattle.ledger.specs.History.{Where, openIn, unbegun, running, waiting, shown, gone, isRunning, isPresent, begunIn, whereIs, delivered, abandoned, standing, lostSince}
 use Rattle.ledger.specs.Added.{adds, history}
 use Rattle.ledger.specs.Copying.{FinishWaits, StandbyIsCopied, awaitsCopied, endsWait, EndsTheWait, NoneEnds, StandsUncopied}
-use Rattle.ledger.proofs.Tests.{or-true, and-left, and-right, passed}
+use Rattle.ledger.proofs.Tests.{and-left, passed}
 use Rattle.ledger.proofs.Control.{runs-is, standing-idle}
 use Rattle.ledger.proofs.Tidy.{ended-device, ended-begun, delivered-begun}
 use Rattle.ledger.proofs.Kept.{kept}
@@ -50,22 +51,16 @@ standby-is-copied es = record { not-copying = calm es }
 -- ---- what ends the wait
 
 -- the reset word written to E0 while no burst is open
-module _ (m : Machine) (a v : ℕ) (z : not (isOpen (m .burst)) && (eqb a 0xE0 && eqb v 0xB6) ≡ true) where
-  no-burst : isOpen (m .burst) ≡ false
-  no-burst = not-true (isOpen (m .burst)) (and-left (not (isOpen (m .burst))) (eqb a 0xE0 && eqb v 0xB6) z)
-
-  is-word : eqb a 0xE0 && eqb v 0xB6 ≡ true
-  is-word = and-right (not (isOpen (m .burst))) (eqb a 0xE0 && eqb v 0xB6) z
-
-  by-word : stepped m (Write a v) ≡ answered done (reset m)
-  by-word =
-      rw (eqb-true a 0xE0 (and-left (eqb a 0xE0) (eqb v 0xB6) is-word), eqb-true v 0xB6 (and-right (eqb a 0xE0) (eqb v 0xB6) is-word))
-      (passed (isOpen (m .burst)) (answered burstIsOpen m) (answered done (reset m)) no-burst)
+by-word : (m : Machine) → isOpen (m .burst) ≡ false → stepped m (Write 0xE0 0xB6) ≡ answered done (reset m)
+by-word m o = passed (isOpen (m .burst)) (answered burstIsOpen m) (answered done (reset m)) o
 
 ends-wait : (m : Machine) (e : Event) → endsWait (isOpen (m .burst)) e ≡ true → awaitsCopied (next m e .device) ≡ false
 ends-wait m Power z = refl
 ends-wait m Copied z = ap (λ (k : Machine). awaitsCopied (k .device)) (copies m)
-ends-wait m (Write a v) z = ap (λ (x : Outcome). awaitsCopied (x .machine .device)) (by-word m a v z)
+ends-wait m (Write a v) z =
+    let w = both (not (isOpen (m .burst))) (eqb a 0xE0 && eqb v 0xB6) z in
+    let is = both (eqb a 0xE0) (eqb v 0xB6) (w .1) in
+    rw (eqb-true a 0xE0 (is .0), eqb-true v 0xB6 (is .1)) (ap (λ (x : Outcome). awaitsCopied (x .machine .device)) (by-word m (not-true (isOpen (m .burst)) (w .0))))
 ends-wait m (Finish t p u) z = absurd (false≢true z)
 ends-wait m Wake z = absurd (false≢true z)
 ends-wait m (Open a) z = absurd (false≢true z)
@@ -147,12 +142,13 @@ stands-uncopied es fs w z =
     let k = begunIn (history es) in
     let g = history (es ++ fs) in
     let d = deviceIn (history es) in
-    let on = goes-on es fs (runs-in m (history es) (kept es) ∙ and-right (d .copying) (isConverting (d .phase)) w) (copying-now es true (and-left (d .copying) (isConverting (d .phase)) w)) z in
+    let both-now = both (d .copying) (isConverting (d .phase)) w in
+    let on = goes-on es fs (runs-in m (history es) (kept es) ∙ both-now .1) (copying-now es true (both-now .0)) z in
     let begun : n .ledger .begun ≡ k = on .begun-is ∙ counts-are-true es .begun-is in
     let named = standing-is-named (es ++ fs) in
     let runs-on : isRunning (whereIs g k) ≡ true = named .running-is k ∙ rw (on .runs-now, begun, eq-eqb k k refl) in
     let stands : standing g k ≡ true = named .standing-is k ∙ rw runs-on in
-    let free : not (delivered g k) ≡ true = and-left (not (delivered g k)) (not (lostSince g k)) (and-right (isPresent (whereIs g k)) (not (delivered g k) && not (lostSince g k)) stands) in
+    let free = both (not (delivered g k)) (not (lostSince g k)) (both (isPresent (whereIs g k)) (not (delivered g k) && not (lostSince g k)) stands .1) .0 in
     let lost-one : abandoned (lost ∷ g) k ≡ true = rw (is-running (whereIs g k) runs-on, free) (or-true (abandoned g k)) in
     record {
       awaits-still = rw (on .copying-now, ← runs-is (n .device .phase), on .runs-now);
@@ -161,6 +157,6 @@ stands-uncopied es fs w z =
       standing-is = stands;
       power-abandons = subst (λ (l : List Happening). abandoned l k ≡ true) (sym (lost-after (es ++ fs) Power refl refl)) lost-one;
       reset-abandons = λ o.
-          let d = passed (isOpen (n .burst)) (answered burstIsOpen n) (answered done (reset n)) (kept (es ++ fs) .right .open-is ∙ o) in
-          subst (λ (l : List Happening). abandoned l k ≡ true) (sym (lost-after (es ++ fs) (Write 0xE0 0xB6) (ap (λ (x : Outcome). x .answer) d) refl)) lost-one;
+          let d = ap (λ (x : Outcome). x .answer) (by-word n (kept (es ++ fs) .right .open-is ∙ o)) in
+          subst (λ (l : List Happening). abandoned l k ≡ true) (sym (lost-after (es ++ fs) (Write 0xE0 0xB6) d refl)) lost-one;
     }

@@ -1,7 +1,7 @@
 -- The number that an event hands back is the one that the checks give after the history.
 use Prim.Native.Nat.{ℕ}
 use mathlib.Core.Path.{_≡_, refl, sym, ap, _∙_}
-use mathlib.Core.Bool.{Bool, true, false, not, _&&_, _||_}
+use mathlib.Core.Bool.{Bool, true, false, not, _&&_, _||_, and-comm}
 use mathlib.Core.List.{List}
 use native.Mathlib.Omega.{arith}
 use lib.Dec.{leb}
@@ -34,17 +34,11 @@ holds-is : (q : Held) → isHeld q ≡ holds q
 holds-is Nothing = refl
 holds-is (Byte v) = refl
 
--- the tests of the machine and of the history, by copying c and running r
+-- the test of a write, of the machine and of the history, by copying c and running r
 writes-as : (c r : Bool) → not c || r ≡ not (c && not r)
 writes-as true true = refl
 writes-as true false = refl
 writes-as false r = refl
-
-finishes-as : (c r : Bool) → not c && r ≡ r && not c
-finishes-as true true = refl
-finishes-as true false = refl
-finishes-as false true = refl
-finishes-as false false = refl
 
 module _ (m : Machine) (h : List Happening) (k : Kept m h) where
   opens : isOpen (m .burst) ≡ openIn h
@@ -87,7 +81,7 @@ module _ (m : Machine) (h : List Happening) (k : Kept m h) where
   may-write = writes-as (m .device .copying) (runs (m .device .phase)) ∙ rw (copies, runs-in)
 
   may-finish : mayFinish (m .device) ≡ mayFinishIn h
-  may-finish = finishes-as (m .device .copying) (runs (m .device .phase)) ∙ rw (copies, runs-in)
+  may-finish = and-comm (not (m .device .copying)) (runs (m .device .phase)) ∙ rw (copies, runs-in)
 
   may-control : MayControl m → mayWriteIn h ≡ true
   may-control c = sym may-write ∙ c .may-write

@@ -1,7 +1,7 @@
 -- One turn, step by step: what each event makes of a machine that is ready for it.
 use Prim.Native.Nat.{ℕ, _%_, _<_}
 use mathlib.Core.Path.{_≡_, refl, sym, ap, _∙_}
-use mathlib.Core.Bool.{Bool, true, false, not, cond, _||_}
+use mathlib.Core.Bool.{Bool, true, false, not, cond, _||_, or-true}
 use mathlib.Core.List.{List, [], _∷_}
 use lib.Dec.{eqb}
 use lib.ListN.{length}
@@ -26,7 +26,7 @@ use Rattle.machine.specs.Events.{answered, heldF4, takenF4, writtenF4, mayWrite
 use Rattle.machine.specs.declared.Event.the-variants.{Copied, Write, Finish, Wake, Open, Byte}
 use Rattle.machine.specs.Event.{next, after}
 use Rattle.ledger.specs.Alive.{Turn, Fits, byWrite, finish, measured}
-use Rattle.ledger.proofs.Tests.{or-true, chosen, passed}
+use Rattle.ledger.proofs.Tests.{chosen, passed}
 
 in-range : (t : Turn) → Fits t → inRange (t .temperature) (t .pressure) (t .humidity) ≡ true
 in-range t f =
