@@ -69,7 +69,7 @@ known-channel : (w : Signed) (ds : List Need) (v : ℤ) (value : ℕ) → allMet
 known-channel w ds v value m e = rw (met-value w ds v m, ← e)
 
 -- where all are met, so is each
-met-at : (w : Signed) (ds : List Need) (k : ℕ) → allMet w ds ≡ true → met w (getD ds k (hold true 0)) ≡ true
+pub met-at : (w : Signed) (ds : List Need) (k : ℕ) → allMet w ds ≡ true → met w (getD ds k (hold true 0)) ≡ true
 unfolding allMet
 met-at w [] k e = refl
 met-at w (d ∷ ds) zero e = both (met w d) (allMet w ds) e .0
@@ -83,7 +83,7 @@ in-range (negsuc n) e = cc
 
 module _ (words : PressureWords) (fine : ℤ) (count : ℕ) where
   -- the last of the table
-  ranged : allMet Bits64 (pressureNeeds words fine count) ≡ true → p.isPressure (p.plainPressure words fine count) ≡ true
+  pub ranged : allMet Bits64 (pressureNeeds words fine count) ≡ true → p.isPressure (p.plainPressure words fine count) ≡ true
   unfolding pressureNeeds p.plainDivisor p.plainPressure
   ranged e = met-at Bits64 (pressureNeeds words fine count) 36 e
 

@@ -1,12 +1,12 @@
 -- What it means that the plain road is tried: the reading is answered with 0, and no channel is skipped. Assumes nothing.
 use Prim.Native.Nat.{ℕ, _≤_}
 use mathlib.Core.Path.{_≡_}
-use mathlib.Core.Bool.{true, false, _&&_, not}
+use mathlib.Core.Bool.{true, _&&_}
 use mathlib.Core.List.{List}
 use lib.Dec.{leb, eqb}
 use lib.IntN.{ℤ}
 use lib.ListN.{length}
-use borrow.Author.Tests.{not-true, leb-true, eqb-true, le-leb, eq-eqb}
+use borrow.Author.Tests.{leb-true, eqb-true, le-leb}
 use Rattle.laws.specs.Tests.{both}
 use Rattle.paper.specs.Registers as reg
 use Rattle.calibration.specs.declared.Words.{Words}
@@ -14,14 +14,13 @@ use Rattle.calibration.specs.declared.Calibration.the-variants as blocks
 use Rattle.data.specs.Counts.{countsOf}
 use Rattle.compensation.specs.Compensation.{reading, compensatedWords, compensatedWith}
 use Rattle.onegrish_channels.specs.Channels.{channelsInto, readingInto}
-use Rattle.onegrish_reading.specs.Plain.{areEnabled, isTried, doneWith}
+use Rattle.plain_reading.specs.Plain.{areEnabled}
+use Rattle.plain_reading.proofs.Taken.{Enabled, enabled}
+use Rattle.onegrish_reading.specs.Plain.{isTried, doneWith}
 
 pub record Tried (bytes t p h numbers values : ℕ) : Type 0 where
   pub eight : bytes ≡ reg.dataLength
-  pub codes : reg.areCodes t p h ≡ true
-  pub t-on : eqb t 0 ≡ false
-  pub p-on : eqb p 0 ≡ false
-  pub h-on : eqb h 0 ≡ false
+  pub on : Enabled t p h
   pub three : 3 ≤ numbers
   pub four : 4 ≤ values
 
@@ -30,15 +29,9 @@ tried-is bytes t p h numbers values e =
     let a = both (eqb bytes reg.dataLength) (areEnabled t p h && (leb 3 numbers && leb 4 values)) e in
     let b = both (areEnabled t p h) (leb 3 numbers && leb 4 values) (a .1) in
     let room = both (leb 3 numbers) (leb 4 values) (b .1) in
-    let c = both (reg.areCodes t p h) (not (eqb t 0) && (not (eqb p 0) && not (eqb h 0))) (b .0) in
-    let d = both (not (eqb t 0)) (not (eqb p 0) && not (eqb h 0)) (c .1) in
-    let f = both (not (eqb p 0)) (not (eqb h 0)) (d .1) in
     record {
       eight = eqb-true bytes reg.dataLength (a .0);
-      codes = c .0;
-      t-on = not-true (eqb t 0) (d .0);
-      p-on = not-true (eqb p 0) (f .0);
-      h-on = not-true (eqb h 0) (f .1);
+      on = enabled t p h (b .0);
       three = leb-true 3 numbers (room .0);
       four = leb-true 4 values (room .1);
     }
@@ -48,4 +41,5 @@ pub whole-is :
     readingInto (compensatedWith (blocks.Known words) bytes t p h) numbers values ≡ doneWith (channelsInto (reading words (countsOf bytes) 1 1 1) numbers values)
 unfolding compensatedWords
 whole-is words bytes t p h numbers values r =
-    rw (r .eight, r .codes, r .t-on, r .p-on, r .h-on, le-leb 3 (length numbers) (r .three), le-leb 4 (length values) (r .four))
+    let on = r .on in
+    rw (r .eight, on .codes, on .t-on, on .p-on, on .h-on, le-leb 3 (length numbers) (r .three), le-leb 4 (length values) (r .four))

@@ -1,16 +1,13 @@
 -- The plain road of a whole reading: when it is tried, and what it leaves where it is taken to its end and where it is not.
 use Prim.Native.Nat.{ℕ}
 use mathlib.Core.Path.{_≡_}
-use mathlib.Core.Bool.{Bool, true, false, _&&_, not}
+use mathlib.Core.Bool.{Bool, true, false, _&&_}
 use mathlib.Core.List.{List}
 use lib.Dec.{leb, eqb}
 use lib.IntN.{ℤ}
 use Rattle.paper.specs.Numbers as no
 use Rattle.paper.specs.Registers as reg
-
--- codes of 0 to 7, none of which skips its channel
-abbrev pub areEnabled : ℕ → ℕ → ℕ → Bool
-areEnabled t p h = reg.areCodes t p h && (not (eqb t 0) && (not (eqb p 0) && not (eqb h 0)))
+use Rattle.plain_reading.specs.Plain.{areEnabled}
 
 -- eight bytes, enabled codes, and room for three numbers and four values
 abbrev pub isTried : ℕ → ℕ → ℕ → ℕ → ℕ → ℕ → Bool

@@ -8,14 +8,10 @@ ghost use Rattle.calibration.specs.declared.Calibration.the-variants as blocks;
 ghost use Rattle.data.specs.Counts.{countsOf};
 ghost use Rattle.compensation.specs.Compensation.{reading, compensatedWith};
 ghost use Rattle.onegrish_channels.specs.Channels.{channelsInto, readingInto};
-ghost use Rattle.onegrish_reading.specs.Plain.{areEnabled, isTried, doneWith, handed};
+ghost use Rattle.onegrish_reading.specs.Plain.{isTried, doneWith, handed};
 use calibration::Calibration;
 use calibration::Words;
-use compensation::Answer;
-use compensation::Reading;
 use data::Counts;
-use formula::ChannelAnswer;
-use formula::TemperatureAnswer;
 
 // The three channels of counts, where each takes the plain road.
 fn hand_counts(words: Words, counts: Counts, numbers: &mut [u8], values: &mut [i64]) -> bool
@@ -23,41 +19,12 @@ fn hand_counts(words: Words, counts: Counts, numbers: &mut [u8], values: &mut [i
     ensures { λ r. ⌜ handed r (doneWith (channelsInto (reading words counts 1 1 1) (now (numbers .entry)) (now (values .entry))))
         (now (numbers .entry), now (values .entry)) (now (numbers .exit), now (values .exit)) ⌝ }
 {
-    let heat = formula_temperature::temperature_plainly(words.temperature, counts.temperature);
-    if !heat.taken {
+    let plain = plain_reading::read_counts(words, counts);
+    if !plain.taken {
         return false;
     }
-    let p = formula_pressure::pressure_plainly(words.pressure, heat.fine, counts.pressure);
-    if !p.taken {
-        return false;
-    }
-    let h = formula_humidity::humidity_plainly(words.humidity, heat.fine, counts.humidity);
-    if !h.taken {
-        return false;
-    }
-    let temperature = TemperatureAnswer::Known {
-        value: heat.value,
-        fine: heat.fine,
-    };
-    let pressure = ChannelAnswer::Known(p.value);
-    let humidity = ChannelAnswer::Known(h.value);
-    onegrish_channels::hand_reading(
-        Answer::Done(Reading {
-            temperature,
-            pressure,
-            humidity,
-        }),
-        numbers,
-        values,
-    );
+    onegrish_channels::hand_reading(plain_reading::answer(plain), numbers, values);
     true
-}
-
-// Whether the codes are codes and skip no channel.
-fn are_enabled(t: u8, p: u8, h: u8) -> bool
-    ensures { λ r. ⌜ r ≡ areEnabled t p h ⌝ }
-{
-    paper::are_codes(t, p, h) & ((t != 0) & ((p != 0) & (h != 0)))
 }
 
 // Whether the plain road is tried: with eight bytes, enabled codes, and room for three numbers and four values.
@@ -67,7 +34,7 @@ fn is_tried(bytes: usize, t: u8, p: u8, h: u8, numbers: usize, values: usize) ->
     if bytes != paper::DATA {
         return false;
     }
-    if !are_enabled(t, p, h) {
+    if !plain_reading::are_enabled(t, p, h) {
         return false;
     }
     if numbers < 3 {

@@ -1,9 +1,8 @@
 -- `onegrish_reading::plain::hand_bytes` meets its contract: where the road is tried, what the counts make is the whole answer. Assumes nothing.
-use mathlib.Core.Path.{sym, subst, _∙_}
+use mathlib.Core.Path.{sym, _∙_}
 use lib.ListN.{length}
 use denote.Ref.{now}
 use borrow.Author.Needs.{needs}
-use Rattle.onegrish_reading.specs.Plain.{handed}
 use Rattle.onegrish_reading.proofs.Tried.{Tried, tried-is, whole-is}
 use Rattle.onegrish_reading.proofs.plain.hand_bytes.Statement.{statement}
 use Rattle.onegrish_reading.proofs.plain.hand_bytes.Tie as tie
