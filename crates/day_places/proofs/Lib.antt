@@ -1,0 +1,7 @@
+-- Why what Places.antt states holds.
+pub mod Chunks
+pub mod EachPlace
+pub mod Examples
+pub mod Joined
+pub mod Kept
+pub mod Records

@@ -1,0 +1,1 @@
+// What a day answers, place by place: statements and proofs alone.
