@@ -78,10 +78,10 @@ single : (m : ℕ) (r : Row) → r .make ≡ reading Rooms → first (drop m (r 
 single zero r e = e
 single (suc m) r e = ap first (nothing m)
 
-pub last : (number : ℕ) → 26 ≤ number → makeAt number ≡ reading Rooms
+pub last : (number : ℕ) → 27 ≤ number → makeAt number ≡ reading Rooms
 unfolding makeAt commands
 last number h =
-    let e : 26 + (number - 26) ≡ number = omega arith in
+    let e : 27 + (number - 27) ≡ number = omega arith in
     ap (λ (k : ℕ). first (drop k commands)) (sym e)
-    ∙ ap first (sym (drop-drop (number - 26) 26 commands))
-    ∙ single (number - 26) (row "rooms B B B C C C B B B C C C D D D" (reading Rooms)) refl
+    ∙ ap first (sym (drop-drop (number - 27) 27 commands))
+    ∙ single (number - 27) (row "rooms B B B C C C B B B C C C D D D" (reading Rooms)) refl

@@ -59,6 +59,7 @@ pub record Lines : Type 0 where
   pub spi-decode : asked (letters "spi decode 7427 2") (9 ∷ 9 ∷ 9 ∷ 9 ∷ []) ≡ (Question (the.BusDecode Spi 2 2), 0x74 ∷ 0x27 ∷ 9 ∷ 9 ∷ [])
   pub spi-read : asked (letters "spi read F7 256") [] ≡ (Question (the.BusRead Selected 0xF7 256), [])
   pub visit-read : asked (letters "visit read 010000 9") (9 ∷ 9 ∷ 9 ∷ 9 ∷ []) ≡ (Question (the.VisitRead 3 9), 1 ∷ 0 ∷ 0 ∷ 9 ∷ [])
+  pub day : asked (letters "day 01 - 0203 256") (9 ∷ 9 ∷ 9 ∷ 9 ∷ []) ≡ (Question (the.Day 1 0 2 256), 1 ∷ 2 ∷ 3 ∷ 9 ∷ [])
   -- its steps are read later, and there may be none
   pub visit-write : asked (letters "visit write 40 ( x  )") [] ≡ (VisitWrite 40 14, [])
   pub no-steps : asked (letters "visit write 9") [] ≡ (VisitWrite 9 13, [])
@@ -109,6 +110,7 @@ lines-read =
       spi-decode = refl;
       spi-read = refl;
       visit-read = refl;
+      day = refl;
       visit-write = refl;
       no-steps = refl;
       fresh = refl;

@@ -93,6 +93,7 @@ commands =
     ∷ question "spi decode B L" (λ n. the.BusDecode Spi (n at 0) (n at 1))
     ∷ question "spi read P L" (λ n. the.BusRead Selected (octet n 0) (n at 1))
     ∷ question "visit read B L" (λ n. the.VisitRead (n at 0) (n at 1))
+    ∷ question "day B B B L" (λ n. the.Day (n at 0) (n at 1) (n at 2) (n at 3))
     ∷ row "visit write LS" (λ n. asks.VisitWrite (n at 0) (n at 1))
     ∷ row "comp B B B C C C" (reading Comp)
     ∷ row "point B B B C C C" (reading Point)

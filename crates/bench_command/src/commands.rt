@@ -77,7 +77,7 @@ fn command(row: usize, n: [usize; 16]) -> Asked
     if row == 10 {
         return Asked::Ledger;
     }
-    if row == 22 {
+    if row == 23 {
         return Asked::VisitWrite(n[0], n[1]);
     }
     Asked::Question(question(row, n))
@@ -112,7 +112,7 @@ fn later_event(row: usize, n: [usize; 16]) -> Event
 
 // The question of a row.
 fn question(row: usize, n: [usize; 16]) -> Question
-    requires { ⌜ (10 < row) × (row ≡ 22 → ⊥) ⌝ }
+    requires { ⌜ (10 < row) × (row ≡ 23 → ⊥) ⌝ }
     ensures { λ r. ⌜ Asked.Question r ≡ table.makeAt row n ⌝ }
 {
     if row == 11 {
@@ -132,6 +132,9 @@ fn question(row: usize, n: [usize; 16]) -> Question
     }
     if row == 21 {
         return Question::VisitRead(n[0], n[1]);
+    }
+    if row == 22 {
+        return Question::Day(n[0], n[1], n[2], n[3]);
     }
     Question::Reading(shown(row), sent(n))
 }
@@ -161,13 +164,13 @@ fn bus_question(row: usize, n: [usize; 16]) -> Question
 
 // What a row shows of a reading.
 fn shown(row: usize) -> Shown
-    requires { ⌜ 22 < row ⌝ }
+    requires { ⌜ 23 < row ⌝ }
     ensures { λ r. ⌜ table.makeAt row ≡ table.reading r ⌝ }
 {
     match row {
-        23 => Shown::Comp,
-        24 => Shown::Point,
-        25 => Shown::Cells,
+        24 => Shown::Comp,
+        25 => Shown::Point,
+        26 => Shown::Cells,
         _ => Shown::Rooms,
     }
 }

@@ -59,6 +59,8 @@ pub enum Question {
     BusRead(Device, u8, usize),
     // The length of the record, and how many steps the lent list has.
     VisitRead(usize, usize),
+    // The lengths of the two blocks and of the readings, and how many answers the lent list has.
+    Day(usize, usize, usize, usize),
 }
 
 // What a line asks: nothing where it is empty, nothing that can be answered, a question, a visit written, or something of the machine.
@@ -112,6 +114,7 @@ pub fn read(line: &[u8], lent: &mut [u8]) -> Asked
         spi decode B L;\
         spi read P L;\
         visit read B L;\
+        day B B B L;\
         visit write LS;\
         comp B B B C C C;\
         point B B B C C C;\

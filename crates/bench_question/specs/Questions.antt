@@ -24,6 +24,8 @@ use Rattle.bench_lent.specs.Lent.{lentOf}
 use Rattle.bench_bus.specs.Messages.{message}
 use Rattle.visit.specs.Lent.{readInto}
 use Rattle.bench_visit.specs.Visits as visits
+use Rattle.day.specs.Day as of
+use Rattle.bench_day.specs.Days as days
 
 abbrev pub cal : ℕ → ℕ → List ℕ → List ℕ
 cal one two bytes = readings.cal (take one bytes) (take two (drop one bytes))
@@ -51,6 +53,12 @@ reading Point s bytes = map.point (pointOf (cellsOf (first s bytes)))
 reading Cells s bytes = map.cells (cellsOf (first s bytes))
 reading Rooms s bytes = map.verdicts (compared (first s bytes) s bytes)
 
+-- ---- a day: two blocks and its readings
+
+unfoldable pub day : ℕ → ℕ → ℕ → ℕ → List ℕ → List ℕ
+day one two readings room bytes =
+    days.day (of.day (take one bytes) (take two (drop one bytes)) (take readings (drop two (drop one bytes))) (days.lentAnswers room))
+
 -- ---- each question
 
 abbrev pub replied : Question → List ℕ → List ℕ
@@ -63,3 +71,4 @@ replied (the.BusWrite device pairs room) bytes = message (encodedWrite device (t
 replied (the.BusDecode bus sent room) bytes = message (decodedWrite bus (take sent bytes) (lentOf room))
 replied (the.BusRead device register room) bytes = message (encodedRead device register (lentOf room))
 replied (the.VisitRead length room) bytes = visits.read (readInto (take length bytes) (visits.lentSteps room))
+replied (the.Day one two readings room) bytes = day one two readings room bytes

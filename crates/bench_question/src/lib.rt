@@ -57,6 +57,7 @@ fn write_reply(question: Question, bytes: &[u8], out: &mut [u8], at: usize) -> u
             at,
         ),
         Question::VisitRead(length, room) => bench_visit::read(front(bytes, length), room, out, at),
+        Question::Day(one, two, readings, room) => day(one, two, readings, room, bytes, out, at),
     }
 }
 
@@ -65,6 +66,29 @@ fn cal(one: usize, two: usize, bytes: &[u8], out: &mut [u8], at: usize) -> usize
     ensures { λ r. ⌜ (now (out .exit), r) ≡ (now (out .entry), at) ▹ text.cal one two (now (bytes .entry)) ⌝ }
 {
     bench_reading::cal(front(bytes, one), front(rest(bytes, one), two), out, at)
+}
+
+// A day of readings, which are laid after the two blocks, with a lent list of so many answers.
+fn day(
+    one: usize,
+    two: usize,
+    readings: usize,
+    room: usize,
+    bytes: &[u8],
+    out: &mut [u8],
+    at: usize,
+) -> usize
+    ensures { λ r. ⌜ (now (out .exit), r) ≡ (now (out .entry), at) ▹ text.day one two readings room (now (bytes .entry)) ⌝ }
+{
+    let after = rest(bytes, one);
+    bench_day::day(
+        front(bytes, one),
+        front(after, two),
+        front(rest(after, two), readings),
+        room,
+        out,
+        at,
+    )
 }
 
 // What is shown of a reading.

@@ -27,20 +27,21 @@ one name mark n = filled (letters " " ++ (name ++ (mark ++ letters "#"))) (n ∷
 abbrev pub known : ℤ → ℤ → List ℕ
 known value fine = filledSigned (letters " t=# fine=#") (value ∷ fine ∷ [])
 
-abbrev pub told : TemperatureAnswer → List ℕ
-told (heat.Known value fine) = known value fine
-told (heat.Missing m) = one (letters "t") (letters "!") (m .number)
-
--- after the number that says there is a reading
-unfoldable pub temperature : TemperatureAnswer → List ℕ
-temperature t = decimal done ++ told t
+abbrev pub temperature : TemperatureAnswer → List ℕ
+temperature (heat.Known value fine) = known value fine
+temperature (heat.Missing m) = one (letters "t") (letters "!") (m .number)
 
 abbrev pub channel : List ℕ → ChannelAnswer → List ℕ
 channel name (the.Known value) = one name (letters "=") value
 channel name (the.Missing m) = one name (letters "!") (m .number)
 
+-- the three channels, each after a space
+unfoldable pub channels : Reading → List ℕ
+channels r = temperature (r .temperature) ++ (channel (letters "p") (r .pressure) ++ channel (letters "h") (r .humidity))
+
+-- after the number that says there is a reading
 unfoldable pub reading : Reading → List ℕ
-reading r = temperature (r .temperature) ++ (channel (letters "p") (r .pressure) ++ channel (letters "h") (r .humidity))
+reading r = decimal done ++ channels r
 
 abbrev pub answered : Answer → List ℕ
 answered (Refused number) = decimal number

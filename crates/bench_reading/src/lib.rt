@@ -25,9 +25,17 @@ pub fn comp(answer: Answer, out: &mut [u8], at: usize) -> usize
     }
 }
 
-// Writes the three channels of a reading.
+// Writes the number that says there is a reading, and its channels.
 fn write_reading(reading: Reading, out: &mut [u8], at: usize) -> usize
     ensures { λ r. ⌜ (now (out .exit), r) ≡ (now (out .entry), at) ▹ text.reading reading ⌝ }
+{
+    let next = bench_page::write_decimal(paper::DONE as u64, out, at);
+    write_channels(reading, out, next)
+}
+
+// Writes the three channels of a reading, each after a space.
+pub fn write_channels(reading: Reading, out: &mut [u8], at: usize) -> usize
+    ensures { λ r. ⌜ (now (out .exit), r) ≡ (now (out .entry), at) ▹ text.channels reading ⌝ }
 {
     let t = reading.temperature;
     let p = reading.pressure;
@@ -37,14 +45,13 @@ fn write_reading(reading: Reading, out: &mut [u8], at: usize) -> usize
     write_channel(b'h', h, out, b)
 }
 
-// Writes the number that says there is a reading, and a temperature with its fine temperature, or the number in their place.
+// Writes a temperature with its fine temperature, or the number in their place.
 fn write_temperature(channel: TemperatureAnswer, out: &mut [u8], at: usize) -> usize
     ensures { λ r. ⌜ (now (out .exit), r) ≡ (now (out .entry), at) ▹ text.temperature channel ⌝ }
 {
-    let next = bench_page::write_decimal(paper::DONE as u64, out, at);
     match channel {
-        TemperatureAnswer::Known { value, fine } => write_known(value, fine, out, next),
-        TemperatureAnswer::Missing(m) => write_number(b't', b'!', m.number as u64, out, next),
+        TemperatureAnswer::Known { value, fine } => write_known(value, fine, out, at),
+        TemperatureAnswer::Missing(m) => write_number(b't', b'!', m.number as u64, out, at),
     }
 }
 

@@ -30,6 +30,9 @@ returns-8 c = rw (c .before .before .before .before .before .question8 .given .1
 returns-9 : tie.Need-returns-9
 returns-9 c = rw (c .before .before .before .before .before .before .question9 .given .1, c .before .before .read2 .ensures, c .before .before .before .before .front4 .ensures)
 
+returns-10 : tie.Need-returns-10
+returns-10 c = rw (c .before .before .before .before .before .question10 .given .1, c .before .before .day .ensures)
+
 pub write-reply-spec : {M : Type 1} → statement M
 write-reply-spec =
     tie.close
@@ -57,6 +60,8 @@ write-reply-spec =
     (λ c κs. tt)
     (λ c κs. tt)
     (λ c. search needs)
+    (λ c κs. tt)
+    (λ c. search needs)
     returns
     (λ c. search needs)
     returns-2
@@ -73,4 +78,6 @@ write-reply-spec =
     (λ c. search needs)
     returns-8
     (λ c. search needs)
-    returns-9)
+    returns-9
+    (λ c. search needs)
+    returns-10)

@@ -1,4 +1,4 @@
--- The three channels, one after the other.
+-- The number, and then the channels.
 use borrow.Author.Needs.{needs}
 use Rattle.bench_page.proofs.Laws.{joined}
 use Rattle.bench_reading.specs.Reading.{reading}
@@ -7,10 +7,7 @@ use Rattle.bench_reading.proofs.write_reading.Tie as tie
 
 returns : tie.Need-returns
 unfolding reading
-returns c =
-    let p = c .before .before .before .before .before .before in
-    joined _ _ _ (p .before .before .before .before .write-temperature .ensures)
-    (joined _ _ _ (p .write-channel .ensures) (c .before .before .write-channel2 .ensures))
+returns c = joined _ _ _ (c .before .before .before .before .before .before .write-decimal .ensures) (c .before .before .write-channels .ensures)
 
 pub write-reading-spec : {M : Type 1} → statement M
-write-reading-spec = tie.close (tie.spec (λ c κs. tt) (λ c κs. tt) (λ c κs. tt) (λ c. search needs) returns)
+write-reading-spec = tie.close (tie.spec (λ c. search needs) (λ c κs. tt) (λ c κs. tt) (λ c. search needs) returns)

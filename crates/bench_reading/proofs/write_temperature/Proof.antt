@@ -1,10 +1,8 @@
--- The number, and then the cases of the definition.
+-- The cases of the definition.
 use borrow.Author.Needs.{needs}
 use mir.Facts.{toZ-ofZ}
 use mir.Syntax.{w32}
 use mir.Val.{SFits}
-use Rattle.bench_page.proofs.Laws.{joined}
-use Rattle.bench_reading.specs.Reading.{temperature}
 use Rattle.bench_reading.proofs.write_temperature.Statement.{statement}
 use Rattle.bench_reading.proofs.write_temperature.Tie as tie
 
@@ -16,25 +14,17 @@ module _ (k : tie.After-known-told) where
   fine-fits = search needs
 
 returns : tie.Need-returns
-unfolding temperature
 returns c =
     let k = c .before .before .before .before in
-    rw (k .before .channel .given .1)
-    (joined _ _ _ (k .before .before .before .before .before .write-decimal .ensures)
-    (rw (toZ-ofZ (value-fits k), toZ-ofZ (fine-fits k)) at (c .before .before .write-known .ensures)))
+    rw (k .before .channel .given .1) (rw (toZ-ofZ (value-fits k), toZ-ofZ (fine-fits k)) at (c .before .before .write-known .ensures))
 
 returns-2 : tie.Need-returns-2
-unfolding temperature
-returns-2 c =
-    let k = c .before .before .before .before .before .before in
-    rw (k .channel2 .given .1) (joined _ _ _ (k .before .before .before .before .write-decimal .ensures) (c .before .before .write-number .ensures))
+returns-2 c = rw (c .before .before .before .before .before .before .channel2 .given .1) (c .before .before .write-number .ensures)
 
 pub write-temperature-spec : {M : Type 1} → statement M
 write-temperature-spec =
     tie.close
     (tie.spec
-    (λ c. search needs)
-    (λ c κs. tt)
     (λ c. search needs)
     (λ c κs. tt)
     (λ c. search needs)

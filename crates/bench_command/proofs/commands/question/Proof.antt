@@ -1,4 +1,7 @@
 -- The rows by their numbers.
+use Prim.Native.Nat.{ℕ, _≤_, _<_}
+use native.Mathlib.Omega.{arith}
+use mathlib.Core.Path.{_≡_}
 use Rattle.bench_command.specs.Table.{commands, makeAt}
 use borrow.Author.Needs.{needs}
 use Rattle.bench_command.proofs.commands.question.Statement.{statement}
@@ -25,7 +28,20 @@ unfolding commands makeAt
 returns-6 c = rw (c .if6 .taken)
 
 returns-7 : tie.Need-returns-7
-returns-7 c = rw (c .before .shown .ensures, c .sent .ensures)
+unfolding commands makeAt
+returns-7 c = rw (c .if7 .taken)
+
+-- past the others stand the rows of readings
+past : (row : ℕ) → 21 ≤ row → (row ≡ 21 → ⊥) → (row ≡ 22 → ⊥) → (row ≡ 23 → ⊥) → 23 < row
+past row h a b d = omega arith
+
+shown-requires : tie.Need-shown-requires
+shown-requires c κs =
+    let e = c .before .before in
+    past _ (e .if5 .left) (c .before .if6 .left) (c .if7 .left) (e .before .before .before .before .before .pre .1)
+
+returns-8 : tie.Need-returns-8
+returns-8 c = rw (c .before .shown .ensures, c .sent .ensures)
 
 pub question-spec : {M : Type 1} → statement M
 question-spec =
@@ -56,6 +72,11 @@ question-spec =
     (λ c. search needs)
     (λ c. search needs)
     returns-6
+    (λ c. search needs)
+    (λ c. search needs)
+    (λ c. search needs)
+    (λ c. search needs)
+    returns-7
+    shown-requires
     (λ c κs. search needs)
-    (λ c κs. search needs)
-    returns-7)
+    returns-8)
