@@ -1,5 +1,6 @@
 // A page and what is written on it: single bytes, texts, and numbers as digits.
 ghost use mathlib.Core.Path.{_≡_};
+ghost use lib.IntN.{natAbs};
 ghost use Rattle.bench_page.specs.Page.{_▹_, writtenByte};
 ghost use Rattle.bench_page.specs.Digits as spelt;
 
@@ -48,9 +49,20 @@ pub fn write_signed(z: i32, out: &mut [u8], at: usize) -> usize
 {
     if z < 0 {
         let next = write_byte(digits::MINUS, out, at);
-        return write_decimal(digits::magnitude(z), out, next);
+        return write_decimal(magnitude(z), out, next);
     }
-    write_decimal(digits::magnitude(z), out, at)
+    write_decimal(magnitude(z), out, at)
+}
+
+// How far from zero a signed number lies.
+pub fn magnitude(z: i32) -> u64
+    ensures { λ r. ⌜ r ≡ natAbs z ⌝ }
+{
+    let wide = z as i64;
+    if wide < 0 {
+        return (0 - wide) as u64;
+    }
+    wide as u64
 }
 
 // Writes a byte as two hex digits, in upper case.

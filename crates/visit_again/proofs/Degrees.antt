@@ -4,7 +4,7 @@ use native.Mathlib.Nat.{mod-lt}
 use native.Mathlib.Omega.{arith}
 use borrow.Author.Tests.{lt-ltb, le-ltb, le-leb, ltb-true, ltb-false, ne-eqb}
 use mathlib.Core.Bool.{Bool, true, false, cond}
-use mathlib.Core.List.{List, [], _∷_, _++_}
+use mathlib.Core.List.{List, [], _∷_, _++_, append-assoc}
 use mathlib.Core.Path.{_≡_, refl, ap, _∙_}
 use lib.Dec.{eqb, ltb}
 use lib.ListN.{length, take, drop, length-append}
@@ -115,18 +115,21 @@ not-minus m t =
     let h : m % 10 < 10 = mod-lt m (omega arith) in
     rw (ne-eqb (48 + m % 10) 45 (λ e. omega arith))
 
--- ---- hundredths of a degree
+-- ---- hundredths of a degree, with their unit
+
+abbrev hundredths : ℕ → List ℕ
+hundredths n = figures.hundredths n ++ figures.celsius
 
 small : (d : ℕ) → d < 10 → decimal d ≡ lastDigit d ∷ []
 unfolding decimal
 small d h = one-digit 19 d h
 
-shown : (n : ℕ) → figures.hundredths n ≡ text (decimal (n / 100)) (n / 100) (n / 10 % 10) (n % 10)
+shown : (n : ℕ) → hundredths n ≡ text (decimal (n / 100)) (n / 100) (n / 10 % 10) (n % 10)
 unfolding figures.hundredths filledFrom text tail unit
 shown n =
     let a : n / 10 % 10 < 10 = mod-lt (n / 10) (omega arith) in
     let b : n % 10 < 10 = mod-lt n (omega arith) in
-    rw (small (n / 10 % 10) a, small (n % 10) b)
+    rw (small (n / 10 % 10) a, small (n % 10) b) (append-assoc (decimal (n / 100)) (46 ∷ lastDigit (n / 10 % 10) ∷ lastDigit (n % 10) ∷ []) unit)
 
 at-start : (k : ℕ) → 0 + k ≡ k
 at-start k = omega arith
@@ -138,7 +141,7 @@ unfolding decimal digitsOn digit
 digits-of w r h = read-spelled 9 19 w (46 ∷ r) 0 h (omega arith) h ∙ rw (at-start (length (spelled 19 w)))
 
 module _ (n : ℕ) (h : n ≤ 0x80000000) where
-  read-degrees : (minus : Bool) → typed.degrees minus (figures.hundredths n) ≡ typed.celsius minus (n / 100) (n / 10 % 10 % 10 * 10 + n % 10 % 10)
+  read-degrees : (minus : Bool) → typed.degrees minus (hundredths n) ≡ typed.celsius minus (n / 100) (n / 10 % 10 % 10 * 10 + n % 10 % 10)
   unfolding decimal text tail
   read-degrees minus =
       rw (shown n)
@@ -159,17 +162,17 @@ module _ (n : ℕ) (h : n ≤ 0x80000000) where
 
 -- ---- a temperature, above zero and below
 
-missing-not : (word : ℕ) → Begins (spelled 19 (word / 100)) → typed.isMissing (figures.hundredths word) ≡ false
+missing-not : (word : ℕ) → Begins (spelled 19 (word / 100)) → typed.isMissing (hundredths word) ≡ false
 unfolding decimal text tail typed.isMissing
 missing-not word b =
     rw (shown word, b .is) (not-missing (b .number) (b .rest ++ tail (b .rest) 0 (word / 10 % 10) (word % 10)))
 
-minus-not : (word : ℕ) → Begins (spelled 19 (word / 100)) → typed.isMinus (figures.hundredths word) ≡ false
+minus-not : (word : ℕ) → Begins (spelled 19 (word / 100)) → typed.isMinus (hundredths word) ≡ false
 unfolding decimal text tail typed.isMinus
 minus-not word b =
     rw (shown word, b .is) (not-minus (b .number) (b .rest ++ tail (b .rest) 0 (word / 10 % 10) (word % 10)))
 
-plain : (word : ℕ) → word < 0x80000000 → typed.temperature (figures.hundredths word) ≡ Value word
+plain : (word : ℕ) → word < 0x80000000 → typed.temperature (hundredths word) ≡ Value word
 unfolding typed.temperature
 plain word h =
     let b = begins 19 (word / 100) in
@@ -179,14 +182,14 @@ minus-text : (r : List ℕ) → typed.temperature (45 ∷ r) ≡ typed.degrees t
 unfolding typed.temperature typed.isMissing typed.isMinus same sameOn
 minus-text r = rw (either (eqb (length (take 8 (45 ∷ r))) 8))
 
-signed : (word : ℕ) → 0x80000000 ≤ word → word ≤ 0xFFFFFFFF → typed.temperature (45 ∷ figures.hundredths (0xFFFFFFFF - word + 1)) ≡ Value word
+signed : (word : ℕ) → 0x80000000 ≤ word → word ≤ 0xFFFFFFFF → typed.temperature (45 ∷ hundredths (0xFFFFFFFF - word + 1)) ≡ Value word
 signed word g h =
     let n = 0xFFFFFFFF - word + 1 in
     let e : 0x100000000 - n ≡ word = omega arith in
-    minus-text (figures.hundredths n) ∙ read-degrees n (omega arith) true ∙ below n (omega arith) (λ z. omega arith) ∙ ap Value e
+    minus-text (hundredths n) ∙ read-degrees n (omega arith) true ∙ below n (omega arith) (λ z. omega arith) ∙ ap Value e
 
 pub warm-or-cold : (word : ℕ) → word ≤ 0xFFFFFFFF → typed.temperature (figures.temperature word) ≡ Value word
-unfolding figures.temperature
+unfolding figures.temperature figures.degrees
 warm-or-cold word h = by (ltb word 0x80000000) refl
   where
     by : (b : Bool) → ltb word 0x80000000 ≡ b → typed.temperature (figures.temperature word) ≡ Value word

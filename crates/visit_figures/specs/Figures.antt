@@ -9,16 +9,20 @@ use Rattle.bench_row.specs.Row.{filled}
 
 -- ---- temperatures: hundredths of a degree in two's complement, `-0.05 °C`
 
+-- with two decimals, `0.05`
+unfoldable pub hundredths : ℕ → List ℕ
+hundredths n = filled (letters "#.##") (n / 100 ∷ n / 10 % 10 ∷ n % 10 ∷ [])
+
+unfoldable pub degrees : ℕ → List ℕ
+degrees word =
+    cond (ltb word 0x80000000) (hundredths word) (letters "-" ++ hundredths (0xFFFFFFFF - word + 1))
+
 -- the degree sign is C2 B0 in UTF-8
 abbrev pub celsius : List ℕ
-celsius = letters "#.## " ++ (0xC2 ∷ 0xB0 ∷ letters "C")
-
-unfoldable pub hundredths : ℕ → List ℕ
-hundredths n = filled celsius (n / 100 ∷ n / 10 % 10 ∷ n % 10 ∷ [])
+celsius = letters " " ++ (0xC2 ∷ 0xB0 ∷ letters "C")
 
 unfoldable pub temperature : ℕ → List ℕ
-temperature word =
-    cond (ltb word 0x80000000) (hundredths word) (letters "-" ++ hundredths (0xFFFFFFFF - word + 1))
+temperature word = degrees word ++ celsius
 
 -- ---- amounts that count parts of a unit
 
@@ -37,12 +41,18 @@ amount word unit =
     spelt.decimal (word / unit) ++ cond (eqb (word % unit) 0) [] (letters "." ++ decimals 10 (word % unit) unit)
 
 -- 256ths of a pascal, `100653.25390625 Pa`
+unfoldable pub pascals : ℕ → List ℕ
+pascals word = amount word 256
+
 unfoldable pub pressure : ℕ → List ℕ
-pressure word = amount word 256 ++ letters " Pa"
+pressure word = pascals word ++ letters " Pa"
 
 -- 1024ths of a percent, `36.8857421875 %RH`
+unfoldable pub percent : ℕ → List ℕ
+percent word = amount word 1024
+
 unfoldable pub humidity : ℕ → List ℕ
-humidity word = amount word 1024 ++ letters " %RH"
+humidity word = percent word ++ letters " %RH"
 
 -- ---- missing answers, `missing 10 (channel skipped)`
 

@@ -1,4 +1,4 @@
-// Values as text: temperatures, pressures and humidities, each exactly and with its unit, and missing answers with their reasons.
+// Values as text: temperatures, pressures and humidities, each exactly, with its unit or without, and missing answers with their reasons.
 ghost use mathlib.Core.Path.{_≡_};
 ghost use Prim.Native.Nat.{_<_};
 ghost use Rattle.bench_page.specs.Page.{_▹_};
@@ -19,18 +19,15 @@ pub const DECIMALS: u32 = 10;
 pub fn write_temperature(word: u32, out: &mut [u8], at: usize) -> usize
     ensures { λ r. ⌜ (now (out .exit), r) ≡ (now (out .entry), at) ▹ text.temperature word ⌝ }
 {
-    if word < NEGATIVE {
-        return write_hundredths(word, out, at);
-    }
-    let next = bench_page::write_byte(b'-', out, at);
-    write_hundredths(0xFFFFFFFF - word + 1, out, next)
+    let next = write_degrees(word, out, at);
+    bench_page::write_text(b" \xC2\xB0C", out, next)
 }
 
 // Writes a pressure.
 pub fn write_pressure(word: u32, out: &mut [u8], at: usize) -> usize
     ensures { λ r. ⌜ (now (out .exit), r) ≡ (now (out .entry), at) ▹ text.pressure word ⌝ }
 {
-    let next = write_amount(word, PASCAL, out, at);
+    let next = write_pascals(word, out, at);
     bench_page::write_text(b" Pa", out, next)
 }
 
@@ -38,8 +35,29 @@ pub fn write_pressure(word: u32, out: &mut [u8], at: usize) -> usize
 pub fn write_humidity(word: u32, out: &mut [u8], at: usize) -> usize
     ensures { λ r. ⌜ (now (out .exit), r) ≡ (now (out .entry), at) ▹ text.humidity word ⌝ }
 {
-    let next = write_amount(word, PERCENT, out, at);
+    let next = write_percent(word, out, at);
     bench_page::write_text(b" %RH", out, next)
+}
+
+// Writes hundredths of a degree with two decimals, and no unit.
+pub fn write_hundredths(n: u64, out: &mut [u8], at: usize) -> usize
+    ensures { λ r. ⌜ (now (out .exit), r) ≡ (now (out .entry), at) ▹ text.hundredths n ⌝ }
+{
+    bench_row::fill(b"#.##", &[n / 100, n / 10 % 10, n % 10], out, at)
+}
+
+// Writes a pressure with no unit.
+pub fn write_pascals(word: u32, out: &mut [u8], at: usize) -> usize
+    ensures { λ r. ⌜ (now (out .exit), r) ≡ (now (out .entry), at) ▹ text.pascals word ⌝ }
+{
+    write_amount(word, PASCAL, out, at)
+}
+
+// Writes a humidity with no unit.
+pub fn write_percent(word: u32, out: &mut [u8], at: usize) -> usize
+    ensures { λ r. ⌜ (now (out .exit), r) ≡ (now (out .entry), at) ▹ text.percent word ⌝ }
+{
+    write_amount(word, PERCENT, out, at)
 }
 
 // Writes a missing answer: its number, and its reason where it has one.
@@ -50,8 +68,8 @@ pub fn write_missing(number: u32, out: &mut [u8], at: usize) -> usize
     write_reason(number, out, next)
 }
 
-// Writes why an answer is missing.
-fn write_reason(number: u32, out: &mut [u8], at: usize) -> usize
+// Writes why an answer is missing: a space and the reason in brackets, or nothing where the number has none.
+pub fn write_reason(number: u32, out: &mut [u8], at: usize) -> usize
     ensures { λ r. ⌜ (now (out .exit), r) ≡ (now (out .entry), at) ▹ text.reason number ⌝ }
 {
     match number {
@@ -64,16 +82,15 @@ fn write_reason(number: u32, out: &mut [u8], at: usize) -> usize
     }
 }
 
-// Writes hundredths of a degree, with two decimals.
-fn write_hundredths(n: u32, out: &mut [u8], at: usize) -> usize
-    ensures { λ r. ⌜ (now (out .exit), r) ≡ (now (out .entry), at) ▹ text.hundredths n ⌝ }
+// Writes a temperature with no unit.
+fn write_degrees(word: u32, out: &mut [u8], at: usize) -> usize
+    ensures { λ r. ⌜ (now (out .exit), r) ≡ (now (out .entry), at) ▹ text.degrees word ⌝ }
 {
-    bench_row::fill(
-        b"#.## \xC2\xB0C",
-        &[(n / 100) as u64, (n / 10 % 10) as u64, (n % 10) as u64],
-        out,
-        at,
-    )
+    if word < NEGATIVE {
+        return write_hundredths(word as u64, out, at);
+    }
+    let next = bench_page::write_byte(b'-', out, at);
+    write_hundredths((0xFFFFFFFF - word + 1) as u64, out, next)
 }
 
 // Writes an amount that counts parts of a unit: the whole units, and a point and the decimals of the rest where there is one.

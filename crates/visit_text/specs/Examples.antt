@@ -30,6 +30,6 @@ pub as-text :
     (line (letters "    pressure 0 Pa")
     (line (letters "    humidity missing 10 (channel skipped)") [])))))
 unfolding shown.textFrom place.start place.after place.deeper place.back place.oneMore place.number shown.lines shown.group shown.groupForm shown.named
-    shown.time shown.missing shown.temperature shown.pressure shown.humidity figures.temperature figures.hundredths figures.pressure figures.humidity figures.amount figures.decimals figures.missing
-    figures.reason dates.date dates.walk dates.yearDays dates.monthDays dates.isLeap filledFrom spelt.decimal spelt.spelled
+    shown.time shown.missing shown.temperature shown.pressure shown.humidity figures.temperature figures.degrees figures.hundredths figures.pressure figures.pascals figures.humidity figures.percent
+    figures.amount figures.decimals figures.missing figures.reason dates.date dates.walk dates.yearDays dates.monthDays dates.isLeap filledFrom spelt.decimal spelt.spelled
 as-text = refl

@@ -1,22 +1,19 @@
--- The amount, and then its unit.
+-- The figure, and then its unit.
 use Rattle.bench_page.proofs.Laws.{joined}
 use Rattle.visit_figures.specs.Figures.{humidity}
 use borrow.Author.Needs.{needs}
 use Rattle.visit_figures.proofs.write_humidity.Statement.{statement}
 use Rattle.visit_figures.proofs.write_humidity.Tie as tie
 
-write-amount-requires : tie.Need-write-amount-requires
-write-amount-requires c κs = search needs
-
 returns : tie.Need-returns
 unfolding humidity
-returns c = joined _ _ _ (c .before .before .before .before .before .before .before .write-amount .ensures) (c .before .before .write-text .ensures)
+returns c = joined _ _ _ (c .before .before .before .before .before .before .before .write-percent .ensures) (c .before .before .write-text .ensures)
 
 pub write-humidity-spec : {M : Type 1} → statement M
 write-humidity-spec =
     tie.close
     (tie.spec
-    write-amount-requires
+    (λ c κs. tt)
     (λ c. search needs)
     (λ c κs. tt)
     (λ c. search needs)

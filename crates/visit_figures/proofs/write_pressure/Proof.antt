@@ -1,22 +1,19 @@
--- The amount, and then its unit.
+-- The figure, and then its unit.
 use Rattle.bench_page.proofs.Laws.{joined}
 use Rattle.visit_figures.specs.Figures.{pressure}
 use borrow.Author.Needs.{needs}
 use Rattle.visit_figures.proofs.write_pressure.Statement.{statement}
 use Rattle.visit_figures.proofs.write_pressure.Tie as tie
 
-write-amount-requires : tie.Need-write-amount-requires
-write-amount-requires c κs = search needs
-
 returns : tie.Need-returns
 unfolding pressure
-returns c = joined _ _ _ (c .before .before .before .before .before .before .before .write-amount .ensures) (c .before .before .write-text .ensures)
+returns c = joined _ _ _ (c .before .before .before .before .before .before .before .write-pascals .ensures) (c .before .before .write-text .ensures)
 
 pub write-pressure-spec : {M : Type 1} → statement M
 write-pressure-spec =
     tie.close
     (tie.spec
-    write-amount-requires
+    (λ c κs. tt)
     (λ c. search needs)
     (λ c κs. tt)
     (λ c. search needs)

@@ -1,21 +1,13 @@
--- From the first negative word on a minus, and how far from zero it lies.
-use Rattle.visit_figures.proofs.Laws.{first}
+-- The figure, and then its unit.
+use Rattle.bench_page.proofs.Laws.{joined}
 use Rattle.visit_figures.specs.Figures.{temperature}
 use borrow.Author.Needs.{needs}
-use borrow.Author.Tests.{lt-ltb, le-ltb}
 use Rattle.visit_figures.proofs.write_temperature.Statement.{statement}
 use Rattle.visit_figures.proofs.write_temperature.Tie as tie
 
 returns : tie.Need-returns
 unfolding temperature
-returns c = rw (lt-ltb _ _ (c .before .before .before .before .if1 .taken)) (c .before .before .write-hundredths .ensures)
-
-returns-2 : tie.Need-returns-2
-unfolding temperature
-returns-2 c =
-    let m = c .before .before in
-    let b = m .before .before .before .before in
-    rw (le-ltb _ _ (b .before .before .if1 .left)) (first _ _ _ (b .write-byte .ensures) (m .write-hundredths2 .ensures))
+returns c = joined _ _ _ (c .before .before .before .before .before .before .before .write-degrees .ensures) (c .before .before .write-text .ensures)
 
 pub write-temperature-spec : {M : Type 1} → statement M
 write-temperature-spec =
@@ -23,10 +15,6 @@ write-temperature-spec =
     (tie.spec
     (λ c κs. tt)
     (λ c. search needs)
-    returns
     (λ c κs. tt)
     (λ c. search needs)
-    (λ c. search needs)
-    (λ c κs. tt)
-    (λ c. search needs)
-    returns-2)
+    returns)

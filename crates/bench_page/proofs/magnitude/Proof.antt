@@ -10,8 +10,8 @@ use lib.Signed.{mag, ltZ, nonNeg}
 use mir.Facts.{toZ-ofZ, sfits-widen}
 use mir.Syntax.{w32, w64}
 use mir.Val.{Fits, SFits, toZ, ofZ}
-use Rattle.bench_page.proofs.digits.magnitude.Statement.{statement}
-use Rattle.bench_page.proofs.digits.magnitude.Tie as tie
+use Rattle.bench_page.proofs.magnitude.Statement.{statement}
+use Rattle.bench_page.proofs.magnitude.Tie as tie
 
 record Below (z : ℤ) : Type 0 where
   within : SFits w64 (pos 0 -ℤ z)

@@ -1,0 +1,2 @@
+-- How a file was shown.
+pub mod Ended
