@@ -3,6 +3,7 @@
 use crate::bus::Decoded;
 use crate::calibration::Words;
 use crate::compensation::Reading;
+use crate::day::Outcome;
 use crate::ledger::Ledger;
 use crate::machine::Closing;
 use crate::numbers::Number;
@@ -122,6 +123,22 @@ pub fn reading(answer: Answer<'_>, reading: Reading) -> Answer<'_> {
     }
     let answer = answer.channel("p", reading.pressure);
     answer.channel("h", reading.humidity)
+}
+
+/// Writes the answers of a day, with semicolons between them.
+/// A reading refused whole is its number alone.
+pub fn day(answer: Answer<'_>, outcomes: Vec<Outcome>) -> Answer<'_> {
+    let mut answer = answer;
+    for (place, outcome) in outcomes.into_iter().enumerate() {
+        if place > 0 {
+            answer = answer.text(" ;");
+        }
+        answer = match outcome {
+            Ok(known) => reading(answer, known),
+            Err(number) => answer.text(" ").number(number),
+        };
+    }
+    answer
 }
 
 /// Writes a map point.

@@ -22,6 +22,12 @@ pub enum Command {
         other: Input,
         tolerances: [u64; 3],
     },
+    Day {
+        one: Vec<u8>,
+        two: Vec<u8>,
+        readings: Vec<u8>,
+        length: usize,
+    },
     WaitMaximum([u64; 3]),
     WaitTypical([u64; 3]),
     Poll {
@@ -236,6 +242,7 @@ fn read_fixed(words: &[&[u8]]) -> Result<Command, Reason> {
         b"open" | b"close" => 2,
         b"cal" | b"poll" | b"write" => 3,
         b"finish" => 4,
+        b"day" => 5,
         _ => return Err(Reason::UnknownWord),
     };
     check_count(words, count)?;
@@ -245,6 +252,12 @@ fn read_fixed(words: &[&[u8]]) -> Result<Command, Reason> {
         b"cal" => Command::Calibration {
             one: hex_bytes(words[1])?,
             two: hex_bytes(words[2])?,
+        },
+        b"day" => Command::Day {
+            one: hex_bytes(words[1])?,
+            two: hex_bytes(words[2])?,
+            readings: hex_bytes(words[3])?,
+            length: buffer_length(words[4])?,
         },
         b"poll" => Command::Poll {
             allowance: decimal(words[1])?,

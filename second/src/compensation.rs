@@ -107,23 +107,29 @@ fn channel(
     }
 }
 
-/// Compensates one reading of both blocks, the eight bytes and the three codes.
+/// Compensates eight bytes and three codes by words that were read before.
 /// Length is checked first (2), then the codes (7).
-pub fn compensate(input: &Input) -> Result<Reading, Number> {
-    let words = calibration::read(&input.one, &input.two)?;
-    let data = <[u8; DATA]>::try_from(&input.data[..]).map_err(|_| Number::WrongLength)?;
-    if input.codes.iter().any(|code| *code > 7) {
+pub fn by_words(words: &Words, data: &[u8], codes: [u64; 3]) -> Result<Reading, Number> {
+    let data = <[u8; DATA]>::try_from(data).map_err(|_| Number::WrongLength)?;
+    if codes.iter().any(|code| *code > 7) {
         return Err(Number::OutOfRange);
     }
     let [t_count, p_count, h_count] = counts(data);
-    let [t_code, p_code, h_code] = input.codes;
+    let [t_code, p_code, h_code] = codes;
     let temperature = match t_code {
         0 => Err(Number::Skipped),
-        _ => temperature(&words, t_count),
+        _ => temperature(words, t_count),
     };
     Ok(Reading {
         temperature,
-        pressure: channel(p_code, &temperature, |fine| pressure(&words, fine, p_count)),
-        humidity: channel(h_code, &temperature, |fine| humidity(&words, fine, h_count)),
+        pressure: channel(p_code, &temperature, |fine| pressure(words, fine, p_count)),
+        humidity: channel(h_code, &temperature, |fine| humidity(words, fine, h_count)),
     })
+}
+
+/// Compensates one reading of both blocks, the eight bytes and the three codes.
+/// The blocks' lengths are checked before all else (2).
+pub fn compensate(input: &Input) -> Result<Reading, Number> {
+    let words = calibration::read(&input.one, &input.two)?;
+    by_words(&words, &input.data, input.codes)
 }

@@ -5,6 +5,7 @@ use crate::bus;
 use crate::calibration;
 use crate::command::{read, Command};
 use crate::compensation::{compensate, Input};
+use crate::day::{self, Outcome};
 use crate::machine::Machine;
 use crate::numbers::Number;
 use crate::rooms::{self, Channels};
@@ -35,6 +36,14 @@ fn lend<'a, T>(
 /// A reading refused whole has three too.
 fn channels(input: &Input) -> Channels {
     rooms::channels(compensate(input))
+}
+
+/// Lends a list of so many answers to a day, and gives the list as it is filled.
+/// It is filled with 1 before, which no reading answers.
+fn day(one: &[u8], two: &[u8], readings: &[u8], length: usize) -> Result<Vec<Outcome>, Number> {
+    let mut outcomes = vec![Err(Number::Ignored); length];
+    day::fill(one, two, readings, &mut outcomes)?;
+    Ok(outcomes)
 }
 
 impl Default for Bench {
@@ -86,6 +95,12 @@ impl Bench {
                 let verdicts = rooms::compare(&channels(&one), &channels(&other), tolerances);
                 answers::verdicts(answer, verdicts)
             }
+            Command::Day {
+                one,
+                two,
+                readings,
+                length,
+            } => write(answer, day(&one, &two, &readings, length), answers::day),
             Command::WaitMaximum(codes) => {
                 write(answer, wait(MAXIMUM, codes), answers::microseconds)
             }

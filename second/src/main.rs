@@ -1,8 +1,10 @@
-//! The second program's commands: answer, generate and its kinds, sheet, visit.
+//! The second program's commands: answer, generate and its kinds, sheet, visit, day.
 
-use second::generate::{files, Generator, Kind};
-use second::visits::{answers, cases, pack, show, LONGEST_RECORD};
-use second::{copying, edges, maps, sheet, streams, words};
+use second::day::file::File;
+use second::day::texts;
+use second::generate::{day_files, files, Generator, Kind};
+use second::visits::{answers, pack, show, LONGEST_RECORD};
+use second::{copying, day, edges, maps, sheet, streams, visits, words};
 use std::fs;
 use std::io::{self, BufWriter, ErrorKind, Read, Write};
 use std::path::Path;
@@ -15,13 +17,17 @@ second generate-comp COUNT SEED       writes COUNT compensation readings
 second generate-events COUNT SEED     writes COUNT machine events and ledgers
 second generate-rooms COUNT SEED      writes COUNT points, cells and comparisons of rooms
 second generate-visits COUNT SEED     writes COUNT lines of visit records
-second sheet                          writes K1 to K14, other figures, the edges, copying, the rooms and the visits
+second generate-days COUNT SEED       writes COUNT lines of days
+second sheet                          writes K1 to K14, other figures, the edges, copying, the rooms, the visits and the days
 second visit read LEN < RECORD        answers as the bench does, for a record of any length
 second visit write LEN < STEPS        answers as the bench does, for any number of steps
 second visit show < RECORD            writes a record as a text for people
 second visit pack < TEXT              writes the record of such a text
+second day < FILE                     writes a logger's file as a table
+second day --csv < FILE               writes a logger's file with commas between the values
 second generate-records FOLDER COUNT SEED    writes COUNT records, each into a file
 second generate-texts FOLDER COUNT SEED      writes COUNT texts, each into a file
+second generate-day-files FOLDER COUNT SEED  writes COUNT logger's files
 ";
 const LONGEST_LENT: u64 = 1_048_576;
 
@@ -42,7 +48,7 @@ fn generate(kind: Kind, count: u64, seed: u64) -> io::Result<()> {
     output.flush()
 }
 
-/// Writes the lines of the sheet, of the edges, of copying, of the rooms and of the visits to standard output.
+/// Writes the lines of the sheet, of the edges, of copying, of the rooms, of the visits and of the days to standard output.
 /// Their order is fixed.
 fn sheet() -> io::Result<()> {
     let mut output = BufWriter::new(io::stdout().lock());
@@ -51,7 +57,8 @@ fn sheet() -> io::Result<()> {
         edges::lines(),
         copying::lines(),
         maps::lines(),
-        cases::lines(),
+        visits::cases::lines(),
+        day::cases::lines(),
     ];
     for line in parts.concat() {
         writeln!(output, "{line}")?;
@@ -96,10 +103,28 @@ fn make(longest: usize, call: fn(&[u8]) -> Result<Vec<u8>, String>) -> io::Resul
             output.write_all(&bytes)?;
             output.flush()
         }
-        Err(line) => {
-            writeln!(io::stderr(), "{line}")?;
-            std::process::exit(1)
+        Err(line) => refuse(&line),
+    }
+}
+
+/// Says on standard error why nothing is written.
+/// The exit code is 1.
+fn refuse(line: &str) -> io::Result<()> {
+    writeln!(io::stderr(), "{line}")?;
+    std::process::exit(1)
+}
+
+/// Writes a logger's file by the given call; it is read whole first.
+/// Nothing is written of a file that is cut.
+fn log(call: fn(&File, &mut dyn Write) -> io::Result<()>) -> io::Result<()> {
+    let bytes = input(usize::MAX)?;
+    match File::read(&bytes) {
+        Ok(file) => {
+            let mut output = BufWriter::with_capacity(1 << 16, io::stdout().lock());
+            call(&file, &mut output)?;
+            output.flush()
         }
+        Err(line) => refuse(&line),
     }
 }
 
@@ -129,6 +154,8 @@ fn run(arguments: &[&str]) -> Option<io::Result<()>> {
         ["answer"] => Some(answer()),
         ["sheet"] => Some(sheet()),
         ["visit", rest @ ..] => visit(rest),
+        ["day"] => Some(log(texts::table)),
+        ["day", "--csv"] => Some(log(texts::csv)),
         [command, count, seed] => {
             let kind = match *command {
                 "generate" => Kind::Everything,
@@ -136,6 +163,7 @@ fn run(arguments: &[&str]) -> Option<io::Result<()>> {
                 "generate-events" => Kind::Events,
                 "generate-rooms" => Kind::Rooms,
                 "generate-visits" => Kind::Visits,
+                "generate-days" => Kind::Days,
                 _ => return None,
             };
             Some(generate(kind, count.parse().ok()?, seed.parse().ok()?))
@@ -144,6 +172,7 @@ fn run(arguments: &[&str]) -> Option<io::Result<()>> {
             let make = match *command {
                 "generate-records" => files::record,
                 "generate-texts" => files::text,
+                "generate-day-files" => day_files::file,
                 _ => return None,
             };
             Some(fill(folder, count.parse().ok()?, seed.parse().ok()?, make))

@@ -1,6 +1,8 @@
-//! The program's own commands on visit records: what they write, what they say, and their exit codes.
+//! The program's own commands on visit records and loggers' files: what they write, what they say, and their exit codes.
 
-use second::generate::files;
+use second::calibration::blocks;
+use second::day::cases::{chip, flat, AIR};
+use second::generate::{day_files, files};
 use second::visits::cases::{nested, SKIPPED};
 use second::visits::writer::fields;
 use std::fs;
@@ -106,6 +108,43 @@ fn texts() {
     );
 }
 
+/// A logger's file gives a table or values with commas, and a cut one a line on standard error and exit code 1.
+/// Nothing is written then.
+#[test]
+fn days() {
+    let (one, two) = blocks(&chip());
+    let places = [(AIR[0], [1, 1, 1]), (AIR[0], [1, 1, 8])];
+    let file = [one, two, flat(&places)].concat();
+    let table = "place    °C       Pa               %RH\n\
+                 1        25.08    100653.25390625  36.8857421875\n\
+                 2        missing 7 (a code above 7)\n\
+                 \n\
+                 2 readings\n\
+                 temperature: 1 there, 1 missing\n\x20 7 (a code above 7): 1\n\
+                 pressure: 1 there, 1 missing\n\x20 7 (a code above 7): 1\n\
+                 humidity: 1 there, 1 missing\n\x20 7 (a code above 7): 1\n";
+    let csv = "place,celsius,celsius_number,pascal,pascal_number,humidity,humidity_number\n\
+               1,25.08,0,100653.25390625,0,36.8857421875,0\n\
+               2,,7,,7,,7\n";
+    given("day", &file, table.as_bytes());
+    given("day --csv", &file, csv.as_bytes());
+    let cut = [
+        (0, "it ends at byte 0, within the 33 calibration bytes"),
+        (32, "it ends at byte 32, within the 33 calibration bytes"),
+        (
+            54,
+            "it ends at byte 54, with 10 of the 11 bytes of reading 2",
+        ),
+    ];
+    for (length, place) in cut {
+        let said = format!("day: the file is cut: {place}\n");
+        for words in ["day", "day --csv"] {
+            let refused = (Some(1), Vec::new(), said.clone());
+            assert_eq!(run(words, &file[..length]), refused);
+        }
+    }
+}
+
 /// Generated files have their numbers as names, and are the same each time.
 /// Wrong words show the help and give 2.
 #[test]
@@ -115,6 +154,7 @@ fn generated_files() {
     for (command, make) in [
         ("generate-records", files::record as fn(u64, u64) -> Vec<u8>),
         ("generate-texts", files::text),
+        ("generate-day-files", day_files::file),
     ] {
         given(&format!("{command} {name} 20 3"), &[], &[]);
         for place in 0..20 {
@@ -132,6 +172,11 @@ fn generated_files() {
         "visit retire",
         "generate-records 20 3",
         "generate-texts folder x 3",
+        "generate-day-files folder 3",
+        "generate-days 3",
+        "day --table",
+        "day --csv 3",
+        "day x",
     ] {
         let (code, output, said) = run(words, &[]);
         assert_eq!((code, output.len()), (Some(2), 0), "{words}");

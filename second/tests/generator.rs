@@ -5,12 +5,13 @@ use second::lines::Bench;
 use second::words::LONGEST_LINE;
 use std::collections::BTreeSet;
 
-const KINDS: [Kind; 5] = [
+const KINDS: [Kind; 6] = [
     Kind::Everything,
     Kind::Readings,
     Kind::Events,
     Kind::Rooms,
     Kind::Visits,
+    Kind::Days,
 ];
 
 /// Generates so many lines of a kind.
@@ -85,7 +86,7 @@ fn machines_agree() {
             mix = (mix ^ u64::from(byte)).wrapping_mul(0x0100_0000_01B3);
         }
     }
-    assert_eq!(mix, 7_651_745_903_016_106_693);
+    assert_eq!(mix, 2_435_631_605_030_239_922);
 }
 
 /// Each kind has its own commands only, and no line holds a newline.
@@ -108,6 +109,8 @@ fn kinds_have_their_commands() {
     let visits = lines(Kind::Visits, 10_000, 3);
     assert!(visits.iter().all(|line| starts(line, &["visit"])));
     assert!(visits.iter().all(|line| line.len() <= LONGEST_LINE));
+    let days = lines(Kind::Days, 10_000, 3);
+    assert!(days.iter().all(|line| starts(line, &["day"])));
     let walked = lines(Kind::Events, 20_000, 3);
     assert!(walked.iter().all(|line| starts(line, &events)));
     assert!(!answers(&walked).contains('?'));
@@ -116,7 +119,7 @@ fn kinds_have_their_commands() {
     let long = all.iter().filter(|line| line.len() > LONGEST_LINE).count();
     assert!((1..200).contains(&long), "{long}");
     let others = [
-        "cal", "comp", "point", "cells", "rooms", "wait", "poll", "i2c", "spi", "visit",
+        "cal", "comp", "point", "cells", "rooms", "wait", "poll", "i2c", "spi", "visit", "day",
     ];
     for name in others.iter().chain(&events) {
         assert!(all.iter().any(|line| starts(line, &[name])), "{name}");
@@ -159,4 +162,30 @@ fn walks_copy() {
     assert!(count("copied", "0") > count("finish", "0"));
     assert!(count("copied", "6") > 30);
     assert!(count("write", "5") > 20);
+}
+
+/// Days of every kind: none, one and many readings, those that just fit a line, and each refusal.
+/// Every number comes at a place, and among all commands about one line in thirty is a day.
+#[test]
+fn days_are_lively() {
+    let days = lines(Kind::Days, 10_000, 11);
+    let text = answers(&days);
+    let count = |part: &str| text.lines().filter(|answer| answer.contains(part)).count();
+    for number in [
+        "t!10", "p!10", "h!10", "p!11", "h!11", "t!12", "p!12", "h!12", "p!13", "p!14", " 7",
+    ] {
+        assert!(count(number) > 200, "{number} {}", count(number));
+    }
+    let exactly = |wanted: &str| text.lines().filter(|answer| *answer == wanted).count();
+    assert!(exactly("0") > 300 && exactly("2") > 500 && exactly("? too long") > 50);
+    let places = |least: usize| {
+        let many = text
+            .lines()
+            .filter(|answer| answer.matches(" ;").count() >= least);
+        many.count()
+    };
+    assert!(places(1) > 5_000 && places(8) > 500 && places(181) > 50);
+    let all = lines(Kind::Everything, 60_000, 11);
+    let share = all.iter().filter(|line| line.starts_with("day ")).count();
+    assert!((1_500..2_500).contains(&share), "{share}");
 }

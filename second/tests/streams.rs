@@ -70,7 +70,7 @@ fn long_lines() {
 fn binary_junk() {
     let mut random = Random::new(5);
     let junk = random.bytes(1 << 20);
-    let words: [&[u8]; 18] = [
+    let words: [&[u8]; 20] = [
         b"comp ",
         b"point - - - ",
         b"rooms - - - 1 1 1 - - - 1 1 1 ",
@@ -78,6 +78,8 @@ fn binary_junk() {
         b"visit read 0100",
         b"visit write 9 ( ",
         b"7:-5:25767233:!10 ",
+        b"day - - ",
+        b"day 00 00 00 ",
         b") ",
         b"i2c write 76 ",
         b"spi decode ",

@@ -1,9 +1,9 @@
 //! Lines that are none of the commands, for each reason, and lines that just still are.
 
-use super::{buses, events, readings, rooms, times, visits};
+use super::{buses, days, events, readings, rooms, times, visits};
 use crate::random::Random;
 
-const UNKNOWN: [&str; 18] = [
+const UNKNOWN: [&str; 20] = [
     "POWER",
     "Byte",
     "comp2",
@@ -13,6 +13,8 @@ const UNKNOWN: [&str; 18] = [
     "rooms2",
     "visits read - 9",
     "Visit write 9",
+    "Day - - - 0",
+    "days - - - 0",
     "calibrate",
     "reset",
     "?",
@@ -38,7 +40,7 @@ const UNKNOWN_SECOND: [&str; 13] = [
     "visit show 010000 9",
     "visit  read 010000 9",
 ];
-const NO_NUMBERS: [&str; 36] = [
+const NO_NUMBERS: [&str; 41] = [
     "wait max -1 0 0",
     "wait typ 1 +1 1",
     "wait max 1 1 1.0",
@@ -75,8 +77,13 @@ const NO_NUMBERS: [&str; 36] = [
     "visit write 9 ( 7:1:2:3 ) ",
     "visit write 9 ( 7:1:2:!x )",
     "visit write 31 ( 7:1:2:4294967296 )",
+    "day - - 0G 0",
+    "day - -- - 0",
+    "day - - - -1",
+    "day - - - ",
+    "day - - 0000000000000000010101 4294967296",
 ];
-const ODD: [&str; 11] = [
+const ODD: [&str; 14] = [
     "poll 1 0",
     "poll 1 08090",
     "i2c write 76 F42 3",
@@ -88,19 +95,23 @@ const ODD: [&str; 11] = [
     "rooms - - 0 1 1 1 - - - 1 1 1 0 0 x",
     "rooms - - - 1 1 1 - - 655 1 1 1 0 0 0",
     "visit read 01000 257",
+    "day 0 - - x",
+    "day - 123 - 0",
+    "day - - 000000000000000001010 257",
 ];
 const JUNK: &str = " -.,:;?!0189aFgGxX_\t\r\"'/éß−";
 
 /// Makes a line that is valid for the most part.
 /// It is of any subject.
 fn valid(random: &mut Random) -> String {
-    match random.below(7) {
+    match random.below(8) {
         0 => readings::reading(random),
         1 => times::wait(random),
         2 => times::poll(random),
         3 => buses::line(random),
         4 => rooms::line(random),
         5 => visits::line(random),
+        6 => days::line(random),
         _ => events::any(random),
     }
 }
@@ -157,6 +168,8 @@ fn long(random: &mut Random) -> String {
         ("visit read 010000", "01", " 256"),
         ("visit write 256 ( 7:-", "0", "5:1:!10 )"),
         ("visit write 31", " (", ""),
+        ("day - - ", "00", " 185"),
+        ("day - - - ", "0", "0"),
     ]);
     let room = length - start.len() - end.len();
     let middle = filling.repeat(room / filling.len());
@@ -173,6 +186,7 @@ fn long_buffer(random: &mut Random) -> String {
         "spi decode -",
         "visit read 01",
         "visit write",
+        "day - - -",
     ]);
     let length = random.pick(&[256_u64, 257, 1_000, 4_294_967_295]);
     format!("{start} {length}")

@@ -13,7 +13,7 @@ const TEXTS: u64 = 64;
 
 /// Starts a source for one file.
 /// Files beside each other have nothing in common.
-fn source(place: u64, seed: u64) -> Random {
+pub(super) fn source(place: u64, seed: u64) -> Random {
     let start = Random::new(seed).bits();
     Random::new(start ^ Random::new(place).bits())
 }

@@ -6,6 +6,8 @@
 mod buses;
 mod chips;
 mod damaged;
+pub mod day_files;
+mod days;
 mod events;
 pub mod files;
 mod readings;
@@ -32,6 +34,7 @@ pub enum Kind {
     Events,
     Rooms,
     Visits,
+    Days,
 }
 
 /// The generator: its source, its own bench, and the lines not yet handed out.
@@ -84,6 +87,7 @@ impl Generator {
             Kind::Events => self.events(),
             Kind::Rooms => self.rooms(),
             Kind::Visits => self.visits(),
+            Kind::Days => self.days(),
             Kind::Everything if self.since_tour >= LINES_TO_TOUR => {
                 self.since_tour = 0;
                 self.tour();
@@ -114,10 +118,11 @@ impl Generator {
     /// Readings and walks take the most lines.
     fn anything(&mut self) {
         match self.random.below(100) {
-            0..=20 => self.readings(),
-            21..=29 => self.rooms(),
-            30..=38 => self.visits(),
-            39..=42 => self.calibrations(),
+            0..=16 => self.readings(),
+            17..=24 => self.rooms(),
+            25..=32 => self.visits(),
+            33..=39 => self.days(),
+            40..=42 => self.calibrations(),
             43..=52 => self.waits(),
             53..=62 => self.polls(),
             63..=79 => self.buses(),
@@ -151,6 +156,12 @@ impl Generator {
     /// None of them changes the machine.
     fn visits(&mut self) {
         self.run(4, 16, visits::line);
+    }
+
+    /// Writes a few days of readings.
+    /// None of them changes the machine.
+    fn days(&mut self) {
+        self.run(3, 11, days::line);
     }
 
     /// Writes a few calibration blocks.

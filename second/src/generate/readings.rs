@@ -24,7 +24,7 @@ pub fn real_counts(random: &mut Random) -> [u64; 3] {
 
 /// Makes counts over the whole of their bits, often at an edge.
 /// Each channel is chosen apart.
-fn wide_counts(random: &mut Random) -> [u64; 3] {
+pub fn wide_counts(random: &mut Random) -> [u64; 3] {
     let mut counts = [
         random.below(1 << 20),
         random.below(1 << 20),
@@ -59,7 +59,7 @@ fn codes(random: &mut Random) -> [u64; 3] {
 
 /// Makes the words and counts of one reading.
 /// Real-looking chips come most often, then one or two words at an edge.
-fn chip(random: &mut Random) -> (Words, [u64; 3]) {
+pub fn chip(random: &mut Random) -> (Words, [u64; 3]) {
     let mut counts = wide_counts(random);
     let words = match random.below(100) {
         0..=39 => {

@@ -1,6 +1,8 @@
 //! A tour that reaches every number from 0 to 22 and every reason, by its making.
 
 use super::{chips, events, trees, Generator};
+use crate::calibration::blocks;
+use crate::day::cases::{day, flat, spell};
 use crate::maps;
 use crate::sheet::{k2_words, k5_words, zero_divisor_words};
 use crate::spelling::{asked, input, reading, rooms};
@@ -15,6 +17,7 @@ impl Generator {
         self.tour_of_readings();
         self.tour_of_rooms();
         self.tour_of_visits();
+        self.tour_of_days();
         self.tour_of_buses();
         self.tour_of_events();
         self.tour_of_copying();
@@ -104,6 +107,34 @@ impl Generator {
         }
     }
 
+    /// Reaches 7 and 10 to 14 at one place of a day, and 2 in each way that it comes.
+    /// A real chip has values at the places around it.
+    fn tour_of_days(&mut self) {
+        let counts = [519_888, 415_148, self.random.below(1 << 16)];
+        let real = chips::real(&mut self.random);
+        let away = [counts[0] + 64, counts[1] - 64, counts[2] / 2];
+        for codes in [[1, 1, 1], [0, 1, 1], [1, 0, 1], [1, 1, 0], [1, 8, 1]] {
+            let places = [(counts, [1, 1, 1]), (away, codes), (counts, [1, 1, 1])];
+            self.say(day(&real, &places));
+        }
+        for (words, lacking) in chips::broken(&mut self.random) {
+            self.say(day(&words, &[(lacking, [1, 1, 1]), (away, [1, 1, 1])]));
+        }
+        let (one, two) = blocks(&real);
+        let bytes = flat(&[(counts, [1, 1, 1]), (away, [1, 1, 1])]);
+        let lines = [
+            spell(&one, &two, &[], 0),
+            spell(&one, &two, &bytes, 1),
+            spell(&one, &two, &bytes, 3),
+            spell(&one, &two, &bytes[1..], 2),
+            spell(&one[1..], &two, &bytes, 2),
+            spell(&one, &[], &[], 0),
+        ];
+        for line in lines {
+            self.say(line);
+        }
+    }
+
     /// Reaches 4, 9, 15 and 16 on both buses.
     /// Each comes with a lent buffer that stays as it was.
     fn tour_of_buses(&mut self) {
@@ -161,7 +192,7 @@ impl Generator {
         self.script("fresh 4294967294;copied;write F4 25;write F4 25;copied;finish 1 2 3;ledger");
     }
 
-    /// Reaches each of the five reasons, and those that lines of the map room and of visits can have.
+    /// Reaches each of the five reasons, and those that lines of the map room, of visits and of days can have.
     /// None of these lines changes anything.
     fn tour_of_reasons(&mut self) {
         self.script("nothing;byte 1;open G7;poll 1 080;close 257");
@@ -171,6 +202,7 @@ impl Generator {
         self.script("rooms - - - 1 1 1 - - - 1 1 1 0 4294967296 0");
         self.script("rooms - - - 1 1 1 - 0 - 1 1 1 0 x 0");
         self.script("visit;visit pack;visit write;visit read -;visit read 010 9;visit read - 257");
+        self.script("day;days;day - - -;day - 0 - x;day - - G 0;day - - - 257;day - - - 0 0");
         self.script("visit write x;visit write 257 x;visit write 9 ( 7:1:2 );visit write 9 ( ");
     }
 

@@ -2,6 +2,7 @@
 
 use super::{reader, Channel, Refusal, Slot, Step};
 use crate::numbers::Number;
+use crate::values::{degrees, missing, pascals, percent};
 
 /// The names of groups by their level, the record's own first.
 pub const NAMES: [&str; 4] = ["house", "floor", "room", "reading"];
@@ -43,52 +44,13 @@ fn time(seconds: u32) -> String {
     format!("{seconds} ({year:04}-{month:02}-{day:02} {hour:02}:{minute:02}:{second:02} UTC)")
 }
 
-/// Spells hundredths of a degree with two decimals.
-/// The sign stands in front, also where the whole part is 0.
-fn degrees(hundredths: i32) -> String {
-    let sign = if hundredths < 0 { "-" } else { "" };
-    let size = hundredths.unsigned_abs();
-    format!("{sign}{}.{:02} °C", size / 100, size % 100)
-}
-
-/// Spells a number of parts of a power of two exactly, with as few decimals as it takes.
-/// Each part is so many units of the last decimal place.
-fn exact(value: u32, parts: u32, unit: u64, places: usize) -> String {
-    let rest = u64::from(value % parts) * unit;
-    let decimals = format!("{rest:0places$}");
-    let text = format!("{}.{decimals}", value / parts);
-    text.trim_end_matches('0').trim_end_matches('.').to_string()
-}
-
-/// Spells a pressure in Pa.
-/// A part is 1/256, which is 0.00390625.
-fn pascals(value: u32) -> String {
-    exact(value, 256, 390_625, 8) + " Pa"
-}
-
-/// Spells a humidity in %RH.
-/// A part is 1/1024, which is 0.0009765625.
-fn percent(value: u32) -> String {
-    exact(value, 1024, 9_765_625, 10) + " %RH"
-}
-
-/// Says in words why an answer is missing.
-/// The reader lets no other numbers through.
-fn missing(number: u32) -> String {
-    let reason = match number {
-        10 => "channel skipped",
-        11 => "no temperature to compensate with",
-        12 => "a step left its type",
-        13 => "divisor zero",
-        _ => "pressure negative or above 4,294,967,295",
-    };
-    format!("missing {number} ({reason})")
-}
-
-/// Spells one answer: its value by the given call, or that it is missing.
-/// A missing one has no figure but its number.
-fn answer<T>(channel: Channel<T>, value: fn(T) -> String) -> String {
-    channel.map_or_else(missing, value)
+/// Spells one answer: its value with the unit after it, or that it is missing.
+/// The reader lets no other numbers through than 10 to 14.
+fn answer<T: Into<i64>>(channel: Channel<T>, figure: fn(i64) -> String, unit: &str) -> String {
+    match channel {
+        Ok(value) => format!("{} {unit}", figure(value.into())),
+        Err(number) => missing(number),
+    }
 }
 
 /// Gives the four lines of a slot, without their indentation.
@@ -96,9 +58,9 @@ fn answer<T>(channel: Channel<T>, value: fn(T) -> String) -> String {
 fn lines(slot: &Slot) -> [String; 4] {
     [
         format!("time {}", time(slot.time)),
-        format!("temperature {}", answer(slot.temperature, degrees)),
-        format!("pressure {}", answer(slot.pressure, pascals)),
-        format!("humidity {}", answer(slot.humidity, percent)),
+        format!("temperature {}", answer(slot.temperature, degrees, "°C")),
+        format!("pressure {}", answer(slot.pressure, pascals, "Pa")),
+        format!("humidity {}", answer(slot.humidity, percent, "%RH")),
     ]
 }
 
