@@ -2,8 +2,9 @@
  *
  * The library is proved: each function below does what its comment says, for all input that fits the types. It is built
  * for x86-64 Linux alone. Link libonegrish.a (`rt staticlib onegrish`), for the two functions over kept words
- * libonegrish_words.a (`rt staticlib onegrish_words`), for the three on map points and rooms libonegrish_rooms.a
- * (`rt staticlib onegrish_rooms`), and for the four on visit records libonegrish_visit.a (`rt staticlib onegrish_visit`).
+ * libonegrish_words.a (`rt staticlib onegrish_words`), for a day in one call libonegrish_day.a (`rt staticlib onegrish_day`),
+ * for the three on map points and rooms libonegrish_rooms.a (`rt staticlib onegrish_rooms`), and for the four on visit
+ * records libonegrish_visit.a (`rt staticlib onegrish_visit`).
  *
  * Every function ends, allocates nothing, keeps no state and calls nothing. Any number of threads may call it.
  *
@@ -35,9 +36,11 @@ uint32_t onegrish_version(void);
 /* ---- the numbers that are answered */
 
 #define ONEGRISH_DONE 0                 /* done */
-#define ONEGRISH_WRONG_LENGTH 2         /* not 26 and 7 calibration bytes, 8 data bytes or 18 words; a record over 65,535 bytes */
+#define ONEGRISH_WRONG_LENGTH 2         /* not 26 and 7 calibration bytes, 8 data bytes or 18 words; a day's lists of unequal
+                                           length; a record over 65,535 bytes */
 #define ONEGRISH_ADDRESS_NOT_ALLOWED 4  /* a device's address or a register */
-#define ONEGRISH_OUT_OF_RANGE 7         /* an oversampling code above 7, or a kept word that its type can't hold */
+#define ONEGRISH_OUT_OF_RANGE 7         /* an oversampling code above 7, at its place in a day too; a kept word that its type can't
+                                           hold */
 #define ONEGRISH_BUFFER_TOO_SHORT 9     /* fewer elements lent than the output has */
 #define ONEGRISH_PAIRS_OUTSIDE 15       /* no pair, an odd number of bytes, or more than 16 pairs */
 #define ONEGRISH_WRONG_SHAPE 16         /* bus bytes of the wrong shape */
@@ -48,7 +51,7 @@ uint32_t onegrish_version(void);
 #define ONEGRISH_TOO_DEEP 21            /* a group on the fifth level */
 #define ONEGRISH_VALUE_OUTSIDE 22       /* a value outside its limits, or a missing answer that is none */
 
-/* ---- the numbers that stand in a channel's place, in `numbers` and in a visit's steps; no function answers them */
+/* ---- the numbers that stand in a channel's place, in `numbers`, in a day's answers and in a visit's steps; no function answers them */
 
 #define ONEGRISH_SKIPPED 10             /* the channel's code is 0 */
 #define ONEGRISH_NO_TEMPERATURE 11      /* there is no temperature to compensate with */
@@ -70,6 +73,8 @@ uint32_t onegrish_version(void);
 #define ONEGRISH_WORDS 18       /* words of a chip */
 #define ONEGRISH_NUMBERS 3      /* numbers of a reading: temperature, pressure, humidity */
 #define ONEGRISH_VALUES 4       /* values of a reading: temperature, fine temperature, pressure, humidity */
+#define ONEGRISH_DAY_READING 11 /* bytes of a reading in a day's list: the data bytes, and the codes of the three channels */
+#define ONEGRISH_DAY_NUMBERS 8  /* numbers of an answer in a day's list */
 #define ONEGRISH_POINT 3        /* doubles of a map point, its flags and its numbers: temperature, pressure, humidity */
 #define ONEGRISH_VERDICTS 3     /* verdicts on two rooms: temperature, pressure, humidity */
 #define ONEGRISH_STEP_WORDS 8   /* words of a step */
@@ -87,7 +92,7 @@ uint32_t onegrish_version(void);
 #define ONEGRISH_STEP_SLOT 2
 #define ONEGRISH_STEP_CLOSE 3
 
-/* ---- places in words, numbers and values, in a point's three arrays, in verdicts and in a step's words */
+/* ---- places in words, numbers and values, in a day's answers, in a point's three arrays, in verdicts and in a step's words */
 
 enum {
     ONEGRISH_T1, ONEGRISH_T2, ONEGRISH_T3,
@@ -96,6 +101,10 @@ enum {
 };
 enum { ONEGRISH_NUMBER_T, ONEGRISH_NUMBER_P, ONEGRISH_NUMBER_H };
 enum { ONEGRISH_VALUE_T, ONEGRISH_VALUE_FINE, ONEGRISH_VALUE_P, ONEGRISH_VALUE_H };
+enum {
+    ONEGRISH_DAY_NUMBER, ONEGRISH_DAY_NUMBER_T, ONEGRISH_DAY_VALUE_T, ONEGRISH_DAY_VALUE_FINE,
+    ONEGRISH_DAY_NUMBER_P, ONEGRISH_DAY_VALUE_P, ONEGRISH_DAY_NUMBER_H, ONEGRISH_DAY_VALUE_H
+};
 enum { ONEGRISH_POINT_T, ONEGRISH_POINT_P, ONEGRISH_POINT_H };
 enum { ONEGRISH_VERDICT_T, ONEGRISH_VERDICT_P, ONEGRISH_VERDICT_H };
 enum {
@@ -161,6 +170,23 @@ uint8_t onegrish_words(const uint8_t *one, size_t one_length, const uint8_t *two
 uint8_t onegrish_compensate_words(const int16_t *words, size_t words_length, const uint8_t *bytes, size_t bytes_length,
                                   uint8_t t, uint8_t p, uint8_t h, uint8_t *numbers, size_t numbers_length,
                                   int64_t *values, size_t values_length);
+
+/* ---- a day in one call: in libonegrish_day.a */
+
+/* Compensates a list of readings of one chip, each at its place. A reading is ONEGRISH_DAY_READING bytes: the eight data bytes,
+ * then the codes of temperature, pressure and humidity. Its answer is ONEGRISH_DAY_NUMBERS numbers: what
+ * onegrish_compensate answers for it, and its channels' numbers and values.
+ *   answer[0]  ONEGRISH_DONE, or ONEGRISH_OUT_OF_RANGE for a code above 7; the other readings go on
+ *   answer[1]  the temperature's number: ONEGRISH_DONE for a value, and else what stands in its place
+ *   answer[2]  the temperature in hundredths of a degree Celsius     answer[3]  the fine temperature
+ *   answer[4], answer[5]  the same of the pressure in Pa times 256   answer[6], answer[7]  of the humidity in %RH times 1024
+ * Where a number is not ONEGRISH_DONE the value's place holds 0, which is no value: look at the number first. In an answer
+ * that is ONEGRISH_OUT_OF_RANGE all three channels have that number.
+ *
+ * ONEGRISH_WRONG_LENGTH: blocks that are not 26 and 7 bytes, a list of readings that ends within one, or not one answer for each
+ * reading (readings_length / 11 * 8 numbers).  ONEGRISH_DONE; two empty lists with right blocks are done too. */
+uint8_t onegrish_day(const uint8_t *one, size_t one_length, const uint8_t *two, size_t two_length,
+                     const uint8_t *readings, size_t readings_length, int64_t *answers, size_t answers_length);
 
 /* ---- map points, and two rooms compared: in libonegrish_rooms.a */
 

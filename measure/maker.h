@@ -1,4 +1,5 @@
-// The C baseline's functions. Each reading is eight data bytes in and three numbers out: temperature, pressure, humidity.
+// The C baseline's functions. A reading is eight data bytes in and three numbers out: temperature, pressure, humidity. In a day's list it is
+// eleven bytes in, and eight numbers out where they are all stored.
 #include <stddef.h>
 #include <stdint.h>
 
@@ -19,6 +20,13 @@ void maker_decode(const uint8_t *one, const uint8_t *two, struct maker_words *w)
 
 // n readings with the words decoded before.
 void maker_readings(const struct maker_words *restrict w, const uint8_t *restrict data, size_t n, int64_t *restrict told);
+
+// n readings of eleven bytes, the last three of which it passes over, with the words decoded here first. It stores the eight numbers of an
+// answer (onegrish.h), those of a reading whose three channels are there.
+void maker_day(const uint8_t *restrict one, const uint8_t *restrict two, const uint8_t *restrict readings, size_t n, int64_t *restrict answers);
+
+// The same with three numbers a reading.
+void maker_day_of_three(const uint8_t *restrict one, const uint8_t *restrict two, const uint8_t *restrict readings, size_t n, int64_t *restrict told);
 
 // One reading from the raw blocks.
 void maker_reading(const uint8_t *restrict one, const uint8_t *restrict two, const uint8_t *restrict data, int64_t *restrict told);

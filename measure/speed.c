@@ -2,12 +2,16 @@
 //   speed library|maker blocks|words real|junk ROUNDS    the readings ROUNDS times over
 //   speed compare blocks|words real|junk                 both once: how many channels agree, how many the library refused
 //   speed library cycle ROUNDS                           the machine's forced cycles ROUNDS times over
+//   speed library|maker|three day real|junk ROUNDS       a day's list of readings in one call, ROUNDS times over
+//   speed library|maker|three days real|junk ROUNDS      the same with a hundred days in one list
+//   speed compare day|days real|junk                     both once, as above
 //   speed library|maker wait ROUNDS                      the longest wait at each triple of codes, ROUNDS times over
 //   speed compare wait                                   both once: how many waits agree
-// A round is 1,440 readings, a day with one a minute, or as many cycles, or the 512 triples of codes from 0 to 7. blocks: each reading
+// A round is 1,440 readings, a day with one a minute (of `days` 144,000), or as many cycles, or the 512 triples of codes from 0 to 7. blocks: each reading
 // is a call from the raw blocks, onegrish_compensate beside a function of the C's that decodes too; words: the words are decoded before
-// the first round, and each reading is a call of onegrish_compensate_words beside a turn of the C's loop. All that a round reads is made
-// before the first, so that the difference of two runs is the rounds' own work.
+// the first round, and each reading is a call of onegrish_compensate_words beside a turn of the C's loop. day: all readings are one call of
+// onegrish_day beside a function of the C's that decodes once; the C stores the eight numbers that the library stores, or as `three` the
+// three values alone. All that a round reads is made before the first, so that the difference of two runs is the rounds' own work.
 #include "maker.h"
 #include <onegrish.h>
 #include <stdio.h>
@@ -18,12 +22,15 @@ int atoi(const char *);
 // The machine's cycles, of crates/measure_cycles. A slice is a pointer and a length.
 uint8_t speed_cycles(uint32_t n, uint8_t f4, uint32_t t, uint32_t p, uint32_t h, uint8_t *lent, size_t);
 
-enum { READINGS = 1440, TRIPLES = 512 };
+enum { READINGS = 1440, TRIPLES = 512, DAYS = 100, MOST = READINGS * DAYS };
 static uint8_t one[READINGS][26], two[READINGS][7], data[READINGS][8];
 static uint8_t numbers[READINGS][3];
 static int64_t values[READINGS][4], by_maker[READINGS * 3];
 static int16_t words[ONEGRISH_WORDS];
 static struct maker_words decoded;
+static uint8_t flat[MOST * ONEGRISH_DAY_READING];
+static int64_t rows[MOST * ONEGRISH_DAY_NUMBERS], rows_by_maker[MOST * ONEGRISH_DAY_NUMBERS];
+static size_t listed;
 static uint32_t waits[TRIPLES], waits_by_maker[TRIPLES];
 
 // T1 to P9 are the bench sheet's, H1 to H6 those of a usual chip: 75, 362, 0, 313, 50, 30.
@@ -88,6 +95,43 @@ static void library_words(void) {
 
 static void maker_words(void) { maker_readings(&decoded, data[0], READINGS, by_maker); }
 
+// The readings one after the other as a list, so many days over, each with one sample of each channel.
+static void make_list(size_t days) {
+    listed = days * READINGS;
+    for (size_t i = 0; i < listed; i++) {
+        uint8_t *to = flat + i * ONEGRISH_DAY_READING;
+        __builtin_memcpy(to, data[i % READINGS], 8);
+        to[8] = to[9] = to[10] = 1;
+    }
+}
+
+static uint8_t library_day_answer(void) {
+    return onegrish_day(one[0], 26, two[0], 7, flat, listed * ONEGRISH_DAY_READING, rows, listed * ONEGRISH_DAY_NUMBERS);
+}
+
+static void library_day(void) { library_day_answer(); }
+static void maker_whole_day(void) { maker_day(one[0], two[0], flat, listed, rows_by_maker); }
+static void maker_three(void) { maker_day_of_three(one[0], two[0], flat, listed, rows_by_maker); }
+
+static int compare_days(int real) {
+    static const int numbers_at[3] = {ONEGRISH_DAY_NUMBER_T, ONEGRISH_DAY_NUMBER_P, ONEGRISH_DAY_NUMBER_H};
+    static const int values_at[3] = {ONEGRISH_DAY_VALUE_T, ONEGRISH_DAY_VALUE_P, ONEGRISH_DAY_VALUE_H};
+    int same = 0, refused = 0, apart = 0;
+    int done = library_day_answer() == ONEGRISH_DONE;
+    maker_whole_day();
+    for (size_t i = 0; i < listed; i++) {
+        const int64_t *row = rows + i * ONEGRISH_DAY_NUMBERS, *by_c = rows_by_maker + i * ONEGRISH_DAY_NUMBERS;
+        for (int k = 0; k < 3; k++) {
+            if (row[numbers_at[k]]) refused++;
+            else if (row[values_at[k]] == by_c[values_at[k]]) same++;
+            else apart++;
+        }
+        if (real) apart += row[ONEGRISH_DAY_NUMBER] != 0 || row[ONEGRISH_DAY_VALUE_FINE] != by_c[ONEGRISH_DAY_VALUE_FINE];
+    }
+    printf("%d channels agree, %d refused, %d apart\n", same, refused, apart);
+    return !done || apart != 0 || (real && refused != 0);
+}
+
 // Mode 1 with one sample of each channel, as 0x25 says.
 static int run_cycles(int rounds) {
     static uint8_t lent[8], laid[8];
@@ -144,7 +188,8 @@ int main(int argc, char **argv) {
         return 0;
     }
     if (argc < 4) {
-        printf("usage: speed library|maker|compare blocks|words real|junk [ROUNDS], speed library|maker wait ROUNDS, speed compare wait\n");
+        printf("usage: speed library|maker|compare blocks|words|day|days real|junk [ROUNDS], speed three day|days real|junk [ROUNDS], "
+               "speed library|maker wait ROUNDS, speed compare wait\n");
         return 2;
     }
     int kept = !strcmp(argv[2], "words");
@@ -154,9 +199,14 @@ int main(int argc, char **argv) {
     else make_real();
     onegrish_words(one[0], 26, two[0], 7, words, ONEGRISH_WORDS);
     maker_decode(one[0], two[0], &decoded);
+    int day = !strcmp(argv[2], "day"), many = !strcmp(argv[2], "days");
+    if (day || many) {
+        make_list(day ? 1 : DAYS);
+        library = library_day, maker = strcmp(argv[1], "three") ? maker_whole_day : maker_three;
+    }
     if (!strcmp(argv[1], "compare"))
-        return compare(library, maker);
-    void (*work)(void) = strcmp(argv[1], "maker") ? library : maker;
+        return day || many ? compare_days(!strcmp(argv[3], "real")) : compare(library, maker);
+    void (*work)(void) = strcmp(argv[1], "library") ? maker : library;
     for (int i = argc > 4 ? atoi(argv[4]) : 1; i > 0; i--)
         work();
     return 0;

@@ -1,4 +1,4 @@
-/* Answers the bench's lines on words, readings, map points, rooms, waits, polls and bus bytes through the library for C, so that its
+/* Answers the bench's lines on words, readings, days, map points, rooms, waits, polls and bus bytes through the library for C, so that its
  * answers can be held to the second program's. A reading is asked for twice, from the blocks and with their words kept, and so are two
  * rooms, whole and channel by channel. Lines come well formed, with codes, bytes and tolerances in their types; tests/c/run picks such
  * lines. */
@@ -75,6 +75,16 @@ static int are_same(const struct reading *a, const struct reading *b) {
     return same;
 }
 
+/* The three channels of a reading. */
+static void print_channels(const struct reading *r) {
+    if (r->numbers[0]) printf(" t!%u", r->numbers[0]);
+    else printf(" t=%lld fine=%lld", (long long)r->values[0], (long long)r->values[1]);
+    if (r->numbers[1]) printf(" p!%u", r->numbers[1]);
+    else printf(" p=%lld", (long long)r->values[2]);
+    if (r->numbers[2]) printf(" h!%u", r->numbers[2]);
+    else printf(" h=%lld", (long long)r->values[3]);
+}
+
 static void answer_comp(char **w) {
     uint8_t one[LINE], two[LINE], bytes[LINE];
     struct reading r = {0, {99, 99, 99}, {-1, -1, -1, -1}}, kept;
@@ -84,13 +94,43 @@ static void answer_comp(char **w) {
     kept = by_words(one, n, two, m, bytes, k, t, p, h);
     if (!are_same(&r, &kept)) printf("with kept words otherwise: ");
     printf("%u", r.answer);
-    if (r.answer == 0) {
-        if (r.numbers[0]) printf(" t!%u", r.numbers[0]);
-        else printf(" t=%lld fine=%lld", (long long)r.values[0], (long long)r.values[1]);
-        if (r.numbers[1]) printf(" p!%u", r.numbers[1]);
-        else printf(" p=%lld", (long long)r.values[2]);
-        if (r.numbers[2]) printf(" h!%u", r.numbers[2]);
-        else printf(" h=%lld", (long long)r.values[3]);
+    if (r.answer == 0) print_channels(&r);
+    putchar('\n');
+}
+
+/* An answer of a day beside the single call's for the same bytes and codes. */
+static int is_single(const int64_t *row, const struct reading *r) {
+    int same = row[ONEGRISH_DAY_NUMBER] == r->answer;
+    for (int i = 0; i < ONEGRISH_NUMBERS; i++) {
+        static const int numbers[3] = {ONEGRISH_DAY_NUMBER_T, ONEGRISH_DAY_NUMBER_P, ONEGRISH_DAY_NUMBER_H};
+        static const int values[3] = {ONEGRISH_DAY_VALUE_T, ONEGRISH_DAY_VALUE_P, ONEGRISH_DAY_VALUE_H};
+        static const int places[3] = {ONEGRISH_VALUE_T, ONEGRISH_VALUE_P, ONEGRISH_VALUE_H};
+        int64_t number = r->answer ? r->answer : r->numbers[i];
+        same &= row[numbers[i]] == number && row[values[i]] == (number ? 0 : r->values[places[i]]);
+        if (i == 0) same &= row[ONEGRISH_DAY_VALUE_FINE] == (number ? 0 : r->values[ONEGRISH_VALUE_FINE]);
+    }
+    return same;
+}
+
+/* A list of readings, each held to the single call; where the list is refused, nothing may be written. */
+static void answer_day(char **w) {
+    enum { MOST = 256 * ONEGRISH_DAY_NUMBERS, UNTOUCHED = -7 };
+    static uint8_t one[LINE], two[LINE], readings[LINE];
+    static int64_t rows[MOST];
+    size_t n = bytes_of(w[1], one), m = bytes_of(w[2], two), k = bytes_of(w[3], readings), count = number_of(w[4]);
+    for (size_t i = 0; i < MOST; i++) rows[i] = UNTOUCHED;
+    unsigned answer = onegrish_day(one, n, two, m, readings, k, rows, count * ONEGRISH_DAY_NUMBERS);
+    printf("%u", answer);
+    for (size_t i = 0; i < MOST; i++)
+        if ((answer || i >= count * ONEGRISH_DAY_NUMBERS) && rows[i] != UNTOUCHED) printf(" written");
+    for (size_t i = 0; answer == 0 && i < count; i++) {
+        const uint8_t *at = readings + i * ONEGRISH_DAY_READING;
+        struct reading r = {0, {99, 99, 99}, {-1, -1, -1, -1}};
+        r.answer = onegrish_compensate(one, n, two, m, at, 8, at[8], at[9], at[10], r.numbers, 3, r.values, 4);
+        if (!is_single(rows + i * ONEGRISH_DAY_NUMBERS, &r)) printf(" otherwise");
+        if (i) printf(" ;");
+        if (r.answer) printf(" %u", r.answer);
+        else print_channels(&r);
     }
     putchar('\n');
 }
@@ -217,6 +257,7 @@ int main(void) {
             else {
                 if (same(words[0], "cal")) answer_cal(words);
                 else if (same(words[0], "comp")) answer_comp(words);
+                else if (same(words[0], "day")) answer_day(words);
                 else if (same(words[0], "point")) answer_point(words, 0);
                 else if (same(words[0], "cells")) answer_point(words, 1);
                 else if (same(words[0], "rooms")) answer_rooms(words);
