@@ -1,0 +1,2 @@
+-- What ties the figures of a row to each other.
+pub mod Figures
