@@ -4,3 +4,5 @@ pub mod Walk
 pub mod Refused
 pub mod Bench
 pub mod Details
+pub mod Bmp280
+pub mod Third

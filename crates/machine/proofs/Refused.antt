@@ -12,7 +12,7 @@ use Rattle.machine.specs.Refused.{Unchanged}
 use Rattle.machine.proofs.Walk.{Steps, walk}
 
 abbrev Stays : Machine → Event → Outcome → Type 0
-Stays m e o = (o .answer ≡ done → ⊥) → (o .machine ≡ m) × ((lent : List ℕ) → writtenTo o lent ≡ lent)
+Stays m e o = (o .answer ≡ done → ⊥) → (o .machine ≡ m) × ((lent : List ℕ) → writtenTo (m .device .kind) o lent ≡ lent)
 
 stays : Steps Stays
 stays = record {
@@ -20,7 +20,7 @@ stays = record {
   powers = λ m z. absurd (z refl);
   copies = λ m c z. absurd (z refl);
   resets = λ m o z. absurd (z refl);
-  writes-f2 = λ m v c z. absurd (z refl);
+  writes-f2 = λ m v c f z. absurd (z refl);
   writes-f5 = λ m v c s z. absurd (z refl);
   holds-f4 = λ m v c u q z. absurd (z refl);
   takes-f4 = λ m v c i b z. absurd (z refl);

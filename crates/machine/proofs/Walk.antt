@@ -2,12 +2,15 @@
 -- every event, so that a change of the rules is met here alone.
 use Prim.Native.Nat.{ℕ, _+_, _*_, _/_, _%_}
 use mathlib.Core.Path.{_≡_, refl, sym, subst}
-use mathlib.Core.Bool.{Bool, true, false, not, _||_, false≢true}
+use mathlib.Core.Bool.{Bool, true, false, not, _&&_, _||_, false≢true}
 use lib.Dec.{eqb, ltb}
 use borrow.Author.Tests.{eqb-true, not-true, not-false}
 use Rattle.laws.specs.Choices.{pick}
+use Rattle.laws.specs.Tests.{both}
 use Rattle.paper.specs.Numbers.{done, ignored, wrongLength, burstIsOpen, addressNotAllowed, stillCopying, wrongPhase, outOfRange, allBegun}
 use Rattle.paper.specs.Registers as reg
+use Rattle.kinds.specs.declared.Kind.{Kind}
+use Rattle.kinds.specs.Chips.{facts, isWritable}
 use Rattle.machine.specs.declared.Held.the-variants as held
 use Rattle.machine.specs.declared.Burst.{Burst}
 use Rattle.machine.specs.declared.Burst.the-variants as burst
@@ -32,9 +35,9 @@ pub record MayControl (m : Machine) : Type 0 where
 pub data Refuses (m : Machine) : Event → ℕ → Type 0 where
   not-copying : m .device .copying ≡ false → Refuses m Copied wrongPhase
   write-in-burst : (a v : ℕ) → isOpen (m .burst) ≡ true → Refuses m (Write a v) burstIsOpen
-  write-elsewhere : (a v : ℕ) → isOpen (m .burst) ≡ false → reg.isWritable a ≡ false → Refuses m (Write a v) addressNotAllowed
+  write-elsewhere : (a v : ℕ) → isOpen (m .burst) ≡ false → isWritable (m .device .kind) a ≡ false → Refuses m (Write a v) addressNotAllowed
   reset-otherwise : (v : ℕ) → isOpen (m .burst) ≡ false → eqb v reg.resetWord ≡ false → Refuses m (Write reg.reset v) ignored
-  write-copying : (a v : ℕ) → isOpen (m .burst) ≡ false → reg.isWritable a ≡ true → eqb a reg.reset ≡ false → ev.mayWrite (m .device) ≡ false
+  write-copying : (a v : ℕ) → isOpen (m .burst) ≡ false → isWritable (m .device .kind) a ≡ true → eqb a reg.reset ≡ false → ev.mayWrite (m .device) ≡ false
       → Refuses m (Write a v) stillCopying
   f5-awake : (v : ℕ) → MayControl m → sleeps (m .device .phase) ≡ false → Refuses m (Write reg.config v) ignored
   f4-held : (v : ℕ) → MayControl m → runs (m .device .phase) ≡ true → isHeld (m .device .held) ≡ true → Refuses m (Write reg.ctrlMeas v) ignored
@@ -51,7 +54,7 @@ pub data Refuses (m : Machine) : Event → ℕ → Type 0 where
   byte-without-burst : isOpen (m .burst) ≡ false → Refuses m Byte wrongPhase
   byte-past-last : (first at : ℕ) → m .burst ≡ burst.Open first at → ltb reg.lastRegister at ≡ true → Refuses m Byte addressNotAllowed
   close-without-burst : (n : ℕ) → isOpen (m .burst) ≡ false → Refuses m (Close n) wrongPhase
-  close-wrong-length : (n : ℕ) → isOpen (m .burst) ≡ true → eqb n reg.dataLength ≡ false → Refuses m (Close n) wrongLength
+  close-wrong-length : (n : ℕ) → isOpen (m .burst) ≡ true → eqb n (facts (m .device .kind) .bytes) ≡ false → Refuses m (Close n) wrongLength
 
 pub refuses-not-done : {m : Machine} {e : Event} {n : ℕ} → Refuses m e n → eqb n done ≡ false
 refuses-not-done (not-copying c) = refl
@@ -80,7 +83,8 @@ pub record Steps (P : Machine → Event → Outcome → Type 0) : Type 0 where
   pub powers : (m : Machine) → P m Power (ev.answered done (ev.reset m))
   pub copies : (m : Machine) → m .device .copying ≡ true → P m Copied (ev.answered done (withDevice (withCopying false (m .device)) m))
   pub resets : (m : Machine) → isOpen (m .burst) ≡ false → P m (Write reg.reset reg.resetWord) (ev.answered done (ev.reset m))
-  pub writes-f2 : (m : Machine) (v : ℕ) → MayControl m → P m (Write reg.ctrlHum v) (ev.answered done (withDevice (withF2 (v % 8) (m .device)) m))
+  pub writes-f2 : (m : Machine) (v : ℕ) → MayControl m → facts (m .device .kind) .humidity ≡ true
+      → P m (Write reg.ctrlHum v) (ev.answered done (withDevice (withF2 (v % 8) (m .device)) m))
   pub writes-f5 : (m : Machine) (v : ℕ) → MayControl m → sleeps (m .device .phase) ≡ true
       → P m (Write reg.config v) (ev.answered done (withDevice (withF5 (v / 4 * 4 + v % 2) (m .device)) m))
   pub holds-f4 : (m : Machine) (v : ℕ) → MayControl m → runs (m .device .phase) ≡ true → isHeld (m .device .held) ≡ false
@@ -93,12 +97,19 @@ pub record Steps (P : Machine → Event → Outcome → Type 0) : Type 0 where
   pub opens : (m : Machine) (a : ℕ) → isOpen (m .burst) ≡ false → reg.isReadable a ≡ true → P m (Open a) (ev.answered done (withBurst (burst.Open a a) m))
   pub gives : (m : Machine) (first at : ℕ) → m .burst ≡ burst.Open first at → ltb reg.lastRegister at ≡ false
       → P m Byte (ev.given (register at m) (withBurst (burst.Open first (at + 1)) m))
-  pub ends-whole : (m : Machine) → isOpen (m .burst) ≡ true → ev.isWhole (m .burst) ≡ true → P m (Close reg.dataLength) (ev.wholeClosing m)
-  pub ends-partial : (m : Machine) → isOpen (m .burst) ≡ true → ev.isWhole (m .burst) ≡ false → P m (Close reg.dataLength) (ev.answered done (ev.ended m))
+  pub ends-whole : (m : Machine) → isOpen (m .burst) ≡ true → ev.isWhole (m .device .kind) (m .burst) ≡ true → P m (Close (facts (m .device .kind) .bytes)) (ev.wholeClosing m)
+  pub ends-partial : (m : Machine) → isOpen (m .burst) ≡ true → ev.isWhole (m .device .kind) (m .burst) ≡ false → P m (Close (facts (m .device .kind) .bytes)) (ev.answered done (ev.ended m))
+
+-- F2 is writable where it is there
+has-f2 : (b : Bool) → b && true ≡ true → b ≡ true
+has-f2 true e = refl
+has-f2 false e = e
 
 -- a writable register that is none of the other three is F4
-last-writable : (a : ℕ) → reg.isWritable a ≡ true → eqb a reg.reset ≡ false → eqb a reg.ctrlHum ≡ false → eqb a reg.config ≡ false → a ≡ reg.ctrlMeas
-last-writable a w r h c = at (eqb a reg.ctrlMeas) refl (rw (r, h, c) at w)
+last-writable : (kind : Kind) (a : ℕ) → isWritable kind a ≡ true → eqb a reg.reset ≡ false → eqb a reg.ctrlHum ≡ false → eqb a reg.config ≡ false → a ≡ reg.ctrlMeas
+last-writable kind a w r h c =
+    let any : reg.isWritable a ≡ true = both (not (eqb a reg.ctrlHum) || facts kind .humidity) (reg.isWritable a) w .1 in
+    at (eqb a reg.ctrlMeas) refl (rw (r, h, c) at any)
   where
     at : (b : Bool) → eqb a reg.ctrlMeas ≡ b → (eqb a reg.ctrlMeas || false) ≡ true → a ≡ reg.ctrlMeas
     at true e z = eqb-true a reg.ctrlMeas e
@@ -127,23 +138,26 @@ module _ (P : Machine → Event → Outcome → Type 0) (s : Steps P) (m : Machi
       (λ u. pick Q (isHeld (m .device .held)) (λ q. no (f4-held v c u q)) (λ q. s .holds-f4 m v c u q))
       (λ i. pick Q (isBarred (begins (m .device .phase) v) (m .ledger)) (λ b. no (f4-barred v c i b)) (λ b. s .takes-f4 m v c i b))
 
-  by-control : (a v : ℕ) → isOpen (m .burst) ≡ false → reg.isWritable a ≡ true → eqb a reg.reset ≡ false → P m (Write a v) (ev.writtenControl m a v)
+  by-control : (a v : ℕ) → isOpen (m .burst) ≡ false → isWritable (m .device .kind) a ≡ true → eqb a reg.reset ≡ false → P m (Write a v) (ev.writtenControl m a v)
   by-control a v o w r =
       let Q = P m (Write a v) in
       pick Q (not (ev.mayWrite (m .device))) (λ y. no (write-copying a v o w r (not-true (ev.mayWrite (m .device)) y))) λ y.
       let c : MayControl m = record { none-open = o; may-write = not-false (ev.mayWrite (m .device)) y } in
-      pick Q (eqb a reg.ctrlHum) (λ h. subst (λ (a : ℕ). P m (Write a v) (ev.writtenF2 m v)) (sym (eqb-true a reg.ctrlHum h)) (s .writes-f2 m v c)) λ h.
+      pick Q (eqb a reg.ctrlHum) (λ h. let is = eqb-true a reg.ctrlHum h in
+      subst (λ (a : ℕ). P m (Write a v) (ev.writtenF2 m v)) (sym is)
+      (s .writes-f2 m v c (has-f2 (facts (m .device .kind) .humidity) (subst (λ (a : ℕ). isWritable (m .device .kind) a ≡ true) is w)))) λ h.
       pick Q (eqb a reg.config) (λ f. subst (λ (a : ℕ). P m (Write a v) (ev.writtenF5 m v)) (sym (eqb-true a reg.config f)) (by-f5 v c)) λ f.
-      subst (λ (a : ℕ). P m (Write a v) (ev.writtenF4 m v)) (sym (last-writable a w r h f)) (by-f4 v c)
+      subst (λ (a : ℕ). P m (Write a v) (ev.writtenF4 m v)) (sym (last-writable (m .device .kind) a w r h f)) (by-f4 v c)
 
   by-write : (a v : ℕ) → P m (Write a v) (ev.written m a v)
   by-write a v =
       let Q = P m (Write a v) in
       pick Q (isOpen (m .burst)) (λ o. no (write-in-burst a v o)) λ o.
-      pick Q (not (reg.isWritable a)) (λ w. no (write-elsewhere a v o (not-true (reg.isWritable a) w))) λ w.
+      let writable = isWritable (m .device .kind) a in
+      pick Q (not writable) (λ w. no (write-elsewhere a v o (not-true writable w))) λ w.
       pick Q (eqb a reg.reset)
       (λ r. subst (λ (a : ℕ). P m (Write a v) (ev.writtenReset m v)) (sym (eqb-true a reg.reset r)) (by-reset v o))
-      (λ r. by-control a v o (not-false (reg.isWritable a) w) r)
+      (λ r. by-control a v o (not-false writable w) r)
 
   by-finish : (t p h : ℕ) → P m (Finish t p h) (ev.finished m t p h)
   by-finish t p h =
@@ -176,9 +190,10 @@ module _ (P : Machine → Event → Outcome → Type 0) (s : Steps P) (m : Machi
       let Q = P m (Close n) in
       pick Q (not (isOpen (m .burst))) (λ o. no (close-without-burst n (not-true (isOpen (m .burst)) o))) λ o.
       let open-is = not-false (isOpen (m .burst)) o in
-      pick Q (not (eqb n reg.dataLength)) (λ l. no (close-wrong-length n open-is (not-true (eqb n reg.dataLength) l))) λ l.
-      let length-is = sym (eqb-true n reg.dataLength (not-false (eqb n reg.dataLength) l)) in
-      pick Q (ev.isWhole (m .burst))
+      let bytes = facts (m .device .kind) .bytes in
+      pick Q (not (eqb n bytes)) (λ l. no (close-wrong-length n open-is (not-true (eqb n bytes) l))) λ l.
+      let length-is = sym (eqb-true n bytes (not-false (eqb n bytes) l)) in
+      pick Q (ev.isWhole (m .device .kind) (m .burst))
       (λ w. subst (λ (n : ℕ). P m (Close n) (ev.wholeClosing m)) length-is (s .ends-whole m open-is w))
       (λ w. subst (λ (n : ℕ). P m (Close n) (ev.answered done (ev.ended m))) length-is (s .ends-partial m open-is w))
 
