@@ -5,6 +5,7 @@ use mathlib.Core.Bool.{Bool, true, false, not, cond, _&&_, and-not-self}
 use native.Mathlib.Omega.{arith}
 use lib.Dec.{eqb}
 use borrow.Author.Tests.{ne-eqb, not-false, eqb-true}
+use Rattle.kinds.specs.declared.Kind.{Kind}
 use Rattle.machine.specs.declared.Codes.{Codes}
 use Rattle.machine.specs.declared.Ledger.{Ledger}
 use Rattle.ledger.specs.Happening.{Happening, began, finished, lost, opened, gave, closed, changed}
@@ -41,8 +42,8 @@ abbrev pub latest : Book → Measurement
 latest b = cond (some (b .waiting)) (b .waiting) (b .shown)
 
 -- the running conversion, with its bytes by the codes that it began with
-abbrev pub made : Book → ℕ → ℕ → ℕ → Measurement
-made b x y z = record { number = b .ledger .begun; codes = b .codes; bytes = dataBytes (b .codes) x y z }
+abbrev pub made : Kind → Book → ℕ → ℕ → ℕ → Measurement
+made kind b x y z = record { number = b .ledger .begun; codes = b .codes; bytes = dataBytes kind (b .codes) x y z }
 
 -- ---- the counts
 
@@ -66,42 +67,42 @@ abandons l = counts (l .begun) (l .delivered) (l .overwritten) (l .abandoned + l
 
 -- ---- the entries
 
-abbrev pub fresh : Book
-fresh = record { burst = false; codes = zeroCodes; shown = noMeasurement; read = false; waiting = noMeasurement; ledger = counts 0 0 0 0 0 }
+abbrev pub fresh : Kind → Book
+fresh kind = record { burst = false; codes = zeroCodes; shown = noMeasurement kind; read = false; waiting = noMeasurement kind; ledger = counts 0 0 0 0 0 }
 
 abbrev relatched : Codes → Book → Book
 relatched c b = record { burst = b .burst; codes = c; shown = b .shown; read = b .read; waiting = b .waiting; ledger = b .ledger }
 
--- g: the burst gave all of F7 to FE; c: the codes that are latched after it
-abbrev pub enter : Happening → Bool → Codes → Book → Book
+-- g: the burst gave all of the data bytes; c: the codes that are latched after it
+abbrev pub enter : {kind : Kind} → Happening kind → Bool → Codes → Book → Book
 enter began g c b = record { burst = b .burst; codes = c; shown = b .shown; read = b .read; waiting = b .waiting; ledger = begins (b .ledger) }
-enter (finished x y z) g c b =
+enter {kind} (finished x y z) g c b =
     cond (b .burst)
-    (record { burst = true; codes = c; shown = b .shown; read = b .read; waiting = made b x y z; ledger = overwrites (bit (some (b .waiting))) (b .ledger) })
-    (record { burst = false; codes = c; shown = made b x y z; read = false; waiting = noMeasurement; ledger = overwrites (bit (unread b)) (b .ledger) })
-enter lost g c b = record { burst = false; codes = c; shown = noMeasurement; read = false; waiting = noMeasurement; ledger = abandons (b .ledger) }
+    (record { burst = true; codes = c; shown = b .shown; read = b .read; waiting = made kind b x y z; ledger = overwrites (bit (some (b .waiting))) (b .ledger) })
+    (record { burst = false; codes = c; shown = made kind b x y z; read = false; waiting = noMeasurement kind; ledger = overwrites (bit (unread b)) (b .ledger) })
+enter {kind} lost g c b = record { burst = false; codes = c; shown = noMeasurement kind; read = false; waiting = noMeasurement kind; ledger = abandons (b .ledger) }
 enter (opened i) g c b = record { burst = true; codes = c; shown = b .shown; read = b .read; waiting = b .waiting; ledger = b .ledger }
 enter (gave v) g c b = relatched c b
 enter (changed x) g c b = relatched c b
-enter closed true c b = record {
+enter {kind} closed true c b = record {
   burst = false;
   codes = c;
   shown = latest b;
   read = not (some (b .waiting)) && some (b .shown);
-  waiting = noMeasurement;
+  waiting = noMeasurement kind;
   ledger = delivers (bit (unread b)) (b .ledger);
 }
-enter closed false c b = record {
+enter {kind} closed false c b = record {
   burst = false;
   codes = c;
   shown = latest b;
   read = not (some (b .waiting)) && b .read;
-  waiting = noMeasurement;
+  waiting = noMeasurement kind;
   ledger = overwrites (bit (some (b .waiting) && unread b)) (b .ledger);
 }
 
 -- what a happening asks: u, a conversion is running; o, a burst is open
-abbrev pub Asks : Happening → Bool → Bool → Type 0
+abbrev pub Asks : {kind : Kind} → Happening kind → Bool → Bool → Type 0
 Asks began u o = u ≡ false
 Asks (finished x y z) u o = u ≡ true
 Asks lost u o = Unit {0}
@@ -111,7 +112,7 @@ Asks (changed x) u o = Unit {0}
 Asks closed u o = o ≡ true
 
 -- is one running after it
-abbrev pub runs : Happening → Bool → Bool
+abbrev pub runs : {kind : Kind} → Happening kind → Bool → Bool
 runs began u = true
 runs (finished x y z) u = false
 runs lost u = false
@@ -122,16 +123,16 @@ runs closed u = u
 
 -- ---- what is unread after a close: the one that waited; after a partial one, if none waited, what was unread
 
-pub unread-whole : (c : Codes) (b : Book) → bit (unread (enter closed true c b)) ≡ bit (some (b .waiting))
-unread-whole c b = at (some (b .waiting)) refl
+pub unread-whole : (kind : Kind) (c : Codes) (b : Book) → bit (unread (enter {kind = kind} closed true c b)) ≡ bit (some (b .waiting))
+unread-whole kind c b = at (some (b .waiting)) refl
   where
-    at : (w : Bool) → some (b .waiting) ≡ w → bit (unread (enter closed true c b)) ≡ bit (some (b .waiting))
+    at : (w : Bool) → some (b .waiting) ≡ w → bit (unread (enter {kind = kind} closed true c b)) ≡ bit (some (b .waiting))
     at true e = rw (e, e)
     at false e = rw (e, and-not-self)
 
-pub unread-partial : (c : Codes) (b : Book) → bit (some (b .waiting) && unread b) + bit (unread (enter closed false c b)) ≡ bit (some (b .waiting)) + bit (unread b)
-unread-partial c b = at (some (b .waiting)) refl
+pub unread-partial : (kind : Kind) (c : Codes) (b : Book) → bit (some (b .waiting) && unread b) + bit (unread (enter {kind = kind} closed false c b)) ≡ bit (some (b .waiting)) + bit (unread b)
+unread-partial kind c b = at (some (b .waiting)) refl
   where
-    at : (w : Bool) → some (b .waiting) ≡ w → bit (some (b .waiting) && unread b) + bit (unread (enter closed false c b)) ≡ bit (some (b .waiting)) + bit (unread b)
+    at : (w : Bool) → some (b .waiting) ≡ w → bit (some (b .waiting) && unread b) + bit (unread (enter {kind = kind} closed false c b)) ≡ bit (some (b .waiting)) + bit (unread b)
     at true e = rw (e, e) (omega arith)
     at false e = rw e

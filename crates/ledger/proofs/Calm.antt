@@ -6,6 +6,7 @@ use mathlib.Core.List.{List, [], _∷_}
 use lib.Dec.{eqb}
 use borrow.Author.Tests.{not-true}
 use Rattle.laws.specs.Choices.{pick}
+use Rattle.kinds.specs.declared.Kind.{Kind}
 use Rattle.machine.specs.declared.Phase.{Phase}
 use Rattle.machine.specs.declared.Phase.the-variants.{Sleep, Forced, Normal, Standby}
 use Rattle.machine.specs.declared.Held.{Held}
@@ -65,7 +66,7 @@ stays-calm = record {
   powers = λ m c y. absurd (false≢true y);
   copies = λ m e c y. refl;
   resets = λ m o c y. absurd (false≢true y);
-  writes-f2 = λ m v w c. c;
+  writes-f2 = λ m v w f c. c;
   writes-f5 = λ m v w s c. c;
   holds-f4 = λ m v w r q c. c;
   takes-f4 = λ m v w i b c. calm-controlled (m .device) v c;
@@ -81,5 +82,5 @@ calm-after : (m : Machine) (es : List Event) → Calm (m .device) → Calm (afte
 calm-after m [] c = c
 calm-after m (e ∷ es) c = calm-after (next m e) es (walk StaysCalm stays-calm m e c)
 
-pub calm : (es : List Event) → after fresh es .device .phase ≡ Standby → after fresh es .device .copying ≡ false
-calm es e = calm-after fresh es (λ y. absurd (false≢true y)) (ap standsBy e)
+pub calm : (kind : Kind) (es : List Event) → after (fresh kind) es .device .phase ≡ Standby → after (fresh kind) es .device .copying ≡ false
+calm kind es e = calm-after (fresh kind) es (λ y. absurd (false≢true y)) (ap standsBy e)

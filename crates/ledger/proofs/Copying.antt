@@ -8,6 +8,7 @@ use lib.Dec.{eqb}
 use borrow.Author.Tests.{eq-eqb, eqb-true, not-true}
 use Rattle.laws.specs.Tests.{both}
 use Rattle.paper.specs.Numbers.{done, burstIsOpen, wrongPhase}
+use Rattle.kinds.specs.declared.Kind.{Kind}
 use Rattle.machine.specs.declared.Machine.{Machine}
 use Rattle.machine.specs.declared.Outcome.{Outcome}
 use Rattle.machine.specs.declared.Event.{Event}
@@ -42,11 +43,11 @@ module _ (m : Machine) (c : m .device .copying ≡ true) (t p u : ℕ) where
   leaves : Unchanged m (Finish t p u)
   leaves = refused m (Finish t p u) (λ e. let z : wrongPhase ≡ done = sym six ∙ e in omega arith)
 
-pub finish-waits : (es : List Event) → FinishWaits (after fresh es) (history es)
-finish-waits es = let now = copying-now es true in record { number-is = λ c. six (after fresh es) (now c); leaves-all = λ c. leaves (after fresh es) (now c) }
+pub finish-waits : (kind : Kind) (es : List Event) → FinishWaits (after (fresh kind) es) (history kind es)
+finish-waits kind es = let now = copying-now kind es true in record { number-is = λ c. six (after (fresh kind) es) (now c); leaves-all = λ c. leaves (after (fresh kind) es) (now c) }
 
-pub standby-is-copied : (es : List Event) → StandbyIsCopied (after fresh es)
-standby-is-copied es = record { not-copying = calm es }
+pub standby-is-copied : (kind : Kind) (es : List Event) → StandbyIsCopied (after (fresh kind) es)
+standby-is-copied kind es = record { not-copying = calm kind es }
 
 -- ---- what ends the wait
 
@@ -68,11 +69,11 @@ ends-wait m Byte z = absurd (false≢true z)
 ends-wait m (Close n) z = absurd (false≢true z)
 
 -- the burst that is open is the history's
-asked : (es : List Event) (e : Event) → endsWait (isOpen (after fresh es .burst)) e ≡ endsWait (openIn (history es)) e
-asked es e = ap (λ (o : Bool). endsWait o e) (kept es .right .open-is)
+asked : (kind : Kind) (es : List Event) (e : Event) → endsWait (isOpen (after (fresh kind) es .burst)) e ≡ endsWait (openIn (history kind es)) e
+asked kind es e = ap (λ (o : Bool). endsWait o e) (kept kind es .right .open-is)
 
-pub ends-the-wait : (es : List Event) (e : Event) → EndsTheWait (after fresh es) (history es) e
-ends-the-wait es e = record { awaits-no-more = λ z. ends-wait (after fresh es) e (asked es e ∙ z) }
+pub ends-the-wait : (kind : Kind) (es : List Event) (e : Event) → EndsTheWait (after (fresh kind) es) (history kind es) e
+ends-the-wait kind es e = record { awaits-no-more = λ z. ends-wait (after (fresh kind) es) e (asked kind es e ∙ z) }
 
 -- ---- what is never copied stands
 
@@ -98,7 +99,7 @@ stays = record {
   powers = λ m u c z. absurd (true≢false z);
   copies = λ m e u c z. absurd (true≢false z);
   resets = λ m o u c z. absurd (true≢false (ap (λ (b : Bool). not b && true) (sym o) ∙ z));
-  writes-f2 = λ m v w u c z. record { runs-now = u; copying-now = c; begun-is = refl };
+  writes-f2 = λ m v w f u c z. record { runs-now = u; copying-now = c; begun-is = refl };
   writes-f5 = λ m v w s u c z. record { runs-now = u; copying-now = c; begun-is = refl };
   holds-f4 = λ m v w r q u c z. record { runs-now = u; copying-now = c; begun-is = refl };
   takes-f4 = λ m v w i b u c z. absurd (true≢false (sym u ∙ i));
@@ -113,15 +114,17 @@ stays = record {
 then : {m n k : Machine} → GoesOn m n → GoesOn n k → GoesOn m k
 then f g = record { runs-now = g .runs-now; copying-now = g .copying-now; begun-is = g .begun-is ∙ f .begun-is }
 
-goes-on : (es fs : List Event) → runs (after fresh es .device .phase) ≡ true → after fresh es .device .copying ≡ true → NoneEnds es fs
-    → GoesOn (after fresh es) (after fresh (es ++ fs))
-goes-on es [] u c z = same (after fresh es) _ u c (ap (λ (m : Machine). m .device) (after-append fresh es [])) (ap (λ (m : Machine). m .ledger .begun) (after-append fresh es []))
-goes-on es (f ∷ fs) u c z =
-    let one = after-append fresh es (f ∷ []) in
-    let rest = after-append fresh (es ++ f ∷ []) fs ∙ ap (λ (m : Machine). after m fs) one ∙ sym (after-append fresh es (f ∷ fs)) in
-    let first = walk Stays stays (after fresh es) f u c (asked es f ∙ z .0) in
-    let g : GoesOn (after fresh es) (after fresh (es ++ f ∷ [])) = subst (GoesOn (after fresh es)) (sym one) first in
-    subst (GoesOn (after fresh es)) rest (then g (goes-on (es ++ f ∷ []) fs (g .runs-now) (g .copying-now) (z .1)))
+goes-on : (kind : Kind) (es fs : List Event) → runs (after (fresh kind) es .device .phase) ≡ true → after (fresh kind) es .device .copying ≡ true → NoneEnds kind es fs
+    → GoesOn (after (fresh kind) es) (after (fresh kind) (es ++ fs))
+goes-on kind es [] u c z =
+    let none = after-append (fresh kind) es [] in
+    same (after (fresh kind) es) _ u c (ap (λ (m : Machine). m .device) none) (ap (λ (m : Machine). m .ledger .begun) none)
+goes-on kind es (f ∷ fs) u c z =
+    let one = after-append (fresh kind) es (f ∷ []) in
+    let rest = after-append (fresh kind) (es ++ f ∷ []) fs ∙ ap (λ (m : Machine). after m fs) one ∙ sym (after-append (fresh kind) es (f ∷ fs)) in
+    let first = walk Stays stays (after (fresh kind) es) f u c (asked kind es f ∙ z .0) in
+    let g : GoesOn (after (fresh kind) es) (after (fresh kind) (es ++ f ∷ [])) = subst (GoesOn (after (fresh kind) es)) (sym one) first in
+    subst (GoesOn (after (fresh kind) es)) rest (then g (goes-on kind (es ++ f ∷ []) fs (g .runs-now) (g .copying-now) (z .1)))
 
 is-running : (w : Where) → isRunning w ≡ true → w ≡ running
 is-running unbegun e = absurd (false≢true e)
@@ -131,21 +134,21 @@ is-running shown e = absurd (false≢true e)
 is-running gone e = absurd (false≢true e)
 
 -- what a reset or power event adds
-lost-after : (es : List Event) (e : Event) → answer (after fresh es) e ≡ done → adds (history es) e (byteGiven (after fresh es) .value) ≡ lost ∷ []
-    → history (es ++ e ∷ []) ≡ lost ∷ history es
-lost-after es e d a = added-append fresh [] es (e ∷ []) ∙ rw (d, a)
+lost-after : (kind : Kind) (es : List Event) (e : Event) → answer (after (fresh kind) es) e ≡ done → adds (history kind es) e (byteGiven (after (fresh kind) es) .value) ≡ lost ∷ []
+    → history kind (es ++ e ∷ []) ≡ lost ∷ history kind es
+lost-after kind es e d a = added-append (fresh kind) [] es (e ∷ []) ∙ rw (d, a)
 
-pub stands-uncopied : (es fs : List Event) → awaitsCopied (deviceIn (history es)) ≡ true → NoneEnds es fs → StandsUncopied es fs
-stands-uncopied es fs w z =
-    let m = after fresh es in
-    let n = after fresh (es ++ fs) in
-    let k = begunIn (history es) in
-    let g = history (es ++ fs) in
-    let d = deviceIn (history es) in
+pub stands-uncopied : (kind : Kind) (es fs : List Event) → awaitsCopied (deviceIn (history kind es)) ≡ true → NoneEnds kind es fs → StandsUncopied kind es fs
+stands-uncopied kind es fs w z =
+    let m = after (fresh kind) es in
+    let n = after (fresh kind) (es ++ fs) in
+    let k = begunIn (history kind es) in
+    let g = history kind (es ++ fs) in
+    let d = deviceIn (history kind es) in
     let both-now = both (d .copying) (isConverting (d .phase)) w in
-    let on = goes-on es fs (runs-in m (history es) (kept es) ∙ both-now .1) (copying-now es true (both-now .0)) z in
-    let begun : n .ledger .begun ≡ k = on .begun-is ∙ counts-are-true es .begun-is in
-    let named = standing-is-named (es ++ fs) in
+    let on = goes-on kind es fs (runs-in m (history kind es) (kept kind es) ∙ both-now .1) (copying-now kind es true (both-now .0)) z in
+    let begun : n .ledger .begun ≡ k = on .begun-is ∙ counts-are-true kind es .begun-is in
+    let named = standing-is-named kind (es ++ fs) in
     let runs-on : isRunning (whereIs g k) ≡ true = named .running-is k ∙ rw (on .runs-now, begun, eq-eqb k k refl) in
     let stands : standing g k ≡ true = named .standing-is k ∙ rw runs-on in
     let free = both (not (delivered g k)) (not (lostSince g k)) (both (isPresent (whereIs g k)) (not (delivered g k) && not (lostSince g k)) stands .1) .0 in
@@ -155,8 +158,8 @@ stands-uncopied es fs w z =
       begun-is = begun;
       running-is = is-running (whereIs g k) runs-on;
       standing-is = stands;
-      power-abandons = subst (λ (l : List Happening). abandoned l k ≡ true) (sym (lost-after (es ++ fs) Power refl refl)) lost-one;
+      power-abandons = subst (λ (l : List (Happening kind)). abandoned l k ≡ true) (sym (lost-after kind (es ++ fs) Power refl refl)) lost-one;
       reset-abandons = λ o.
-          let d = ap (λ (x : Outcome). x .answer) (by-word n (kept (es ++ fs) .right .open-is ∙ o)) in
-          subst (λ (l : List Happening). abandoned l k ≡ true) (sym (lost-after (es ++ fs) (Write 0xE0 0xB6) d refl)) lost-one;
+          let d = ap (λ (x : Outcome). x .answer) (by-word n (kept kind (es ++ fs) .right .open-is ∙ o)) in
+          subst (λ (l : List (Happening kind)). abandoned l k ≡ true) (sym (lost-after kind (es ++ fs) (Write 0xE0 0xB6) d refl)) lost-one;
     }

@@ -6,6 +6,7 @@ use mathlib.Core.List.{List, [], _∷_}
 use native.Mathlib.Omega.{arith}
 use lib.Dec.{eqb, eqb·zero-suc}
 use borrow.Author.Tests.{eqb-true, ne-eqb}
+use Rattle.kinds.specs.declared.Kind.{Kind}
 use Rattle.ledger.specs.Happening.{Happening, began, finished, lost, opened, gave, closed, changed}
 use Rattle.ledger.specs.History.{begunIn, openIn, wholeIn, waitsIn}
 use Rattle.ledger.specs.History.{Where, unbegun, running, waiting, shown, gone, finishes, closes, loses, whereIs, isBegun, isPresent, isLoss, delivers, finds, replaces}
@@ -35,7 +36,7 @@ pub record Sight : Type 0 where
 abbrev sight : Where → Bool → Bool → Bool → Sight
 sight w d o a = record { at = w; delivered = d; overwritten = o; abandoned = a }
 
-abbrev pub seen : List Happening → ℕ → Sight
+abbrev pub seen : {kind : Kind} → List (Happening kind) → ℕ → Sight
 seen h k = sight (whereIs h k) (delivered h k) (overwritten h k) (abandoned h k)
 
 abbrev pub sightOf : Fate → Sight
@@ -49,7 +50,7 @@ sightOf Overwritten = sight gone false true false
 sightOf Abandoned = sight gone false false true
 
 -- One happening. o: a burst is open; g: it gave all of F7 to FE; w: a conversion waits; n: this conversion is the next to begin.
-abbrev moved : Happening → Bool → Bool → Bool → Where → Where
+abbrev moved : {kind : Kind} → Happening kind → Bool → Bool → Bool → Where → Where
 moved began o w n p = cond n running p
 moved (finished x y z) o w n p = finishes o p
 moved lost o w n p = loses p
@@ -58,14 +59,14 @@ moved (gave v) o w n p = p
 moved (changed c) o w n p = p
 moved closed o w n p = closes w p
 
-abbrev sees : Happening → Bool → Bool → Bool → Bool → Sight → Sight
+abbrev sees : {kind : Kind} → Happening kind → Bool → Bool → Bool → Bool → Sight → Sight
 sees x o g w n s =
     let d = s .delivered || delivers x g (s .at) in
     sight (moved x o w n (s .at)) d
     (s .overwritten || (replaces x o w (s .at) && not d))
     (s .abandoned || (finds x (s .at) && not (s .delivered)))
 
-seen-more : (x : Happening) (h : List Happening) (k : ℕ) → seen (x ∷ h) k ≡ sees x (openIn h) (wholeIn h) (waitsIn h) (eqb k (suc (begunIn h))) (seen h k)
+seen-more : {kind : Kind} (x : Happening kind) (h : List (Happening kind)) (k : ℕ) → seen (x ∷ h) k ≡ sees x (openIn h) (wholeIn h) (waitsIn h) (eqb k (suc (begunIn h))) (seen h k)
 seen-more began h k = refl
 seen-more (finished x y z) h k = refl
 seen-more lost h k = refl
@@ -74,7 +75,7 @@ seen-more (gave v) h k = refl
 seen-more (changed c) h k = refl
 seen-more closed h k = refl
 
-abbrev pub move : Happening → Bool → Bool → Bool → Bool → Fate → Fate
+abbrev pub move : {kind : Kind} → Happening kind → Bool → Bool → Bool → Bool → Fate → Fate
 move began o g w n p = cond n Running p
 move (finished x y z) o g w n Unbegun = Unbegun
 move (finished x y z) o g w n Running = cond o Waiting Unread
@@ -104,29 +105,29 @@ move closed o g w n Delivered = Delivered
 move closed o g w n Overwritten = Overwritten
 move closed o g w n Abandoned = Abandoned
 
-abbrev pub fate : List Happening → ℕ → Fate
+abbrev pub fate : {kind : Kind} → List (Happening kind) → ℕ → Fate
 fate [] k = Unbegun
 fate (x ∷ h) k = move x (openIn h) (wholeIn h) (waitsIn h) (eqb k (suc (begunIn h))) (fate h k)
 
-abbrev Fits : Happening → Bool → Bool → Bool → Bool → Fate → Type 0
+abbrev Fits : {kind : Kind} → Happening kind → Bool → Bool → Bool → Bool → Fate → Type 0
 Fits x o g w n p = sees x o g w n (sightOf p) ≡ sightOf (move x o g w n p)
 
 -- each move is, in the definitions' sight, their own
-fits : (x : Happening) (o g w n : Bool) (p : Fate) → (n ≡ true → p ≡ Unbegun) → Fits x o g w n p
-fits began o g w true p e = subst (λ q. Fits began o g w true q) (sym (e refl)) refl
-fits began o g w false p e = every (Fits began o g w false) refl refl refl refl refl refl refl refl p
-fits (finished x y z) true g w n p e = every (Fits (finished x y z) true g w n) refl refl refl refl refl refl refl refl p
-fits (finished x y z) false g w n p e = every (Fits (finished x y z) false g w n) refl refl refl refl refl refl refl refl p
-fits lost o g w n p e = every (Fits lost o g w n) refl refl refl refl refl refl refl refl p
-fits (opened i) o g w n p e = every (Fits (opened i) o g w n) refl refl refl refl refl refl refl refl p
-fits (gave v) o g w n p e = every (Fits (gave v) o g w n) refl refl refl refl refl refl refl refl p
-fits (changed c) o g w n p e = every (Fits (changed c) o g w n) refl refl refl refl refl refl refl refl p
-fits closed o true true n p e = every (Fits closed o true true n) refl refl refl refl refl refl refl refl p
-fits closed o true false n p e = every (Fits closed o true false n) refl refl refl refl refl refl refl refl p
-fits closed o false true n p e = every (Fits closed o false true n) refl refl refl refl refl refl refl refl p
-fits closed o false false n p e = every (Fits closed o false false n) refl refl refl refl refl refl refl refl p
+fits : {kind : Kind} (x : Happening kind) (o g w n : Bool) (p : Fate) → (n ≡ true → p ≡ Unbegun) → Fits x o g w n p
+fits {kind} began o g w true p e = subst (λ q. Fits {kind = kind} began o g w true q) (sym (e refl)) refl
+fits {kind} began o g w false p e = every (Fits {kind = kind} began o g w false) refl refl refl refl refl refl refl refl p
+fits {kind} (finished x y z) true g w n p e = every (Fits {kind = kind} (finished x y z) true g w n) refl refl refl refl refl refl refl refl p
+fits {kind} (finished x y z) false g w n p e = every (Fits {kind = kind} (finished x y z) false g w n) refl refl refl refl refl refl refl refl p
+fits {kind} lost o g w n p e = every (Fits {kind = kind} lost o g w n) refl refl refl refl refl refl refl refl p
+fits {kind} (opened i) o g w n p e = every (Fits {kind = kind} (opened i) o g w n) refl refl refl refl refl refl refl refl p
+fits {kind} (gave v) o g w n p e = every (Fits {kind = kind} (gave v) o g w n) refl refl refl refl refl refl refl refl p
+fits {kind} (changed c) o g w n p e = every (Fits {kind = kind} (changed c) o g w n) refl refl refl refl refl refl refl refl p
+fits {kind} closed o true true n p e = every (Fits {kind = kind} closed o true true n) refl refl refl refl refl refl refl refl p
+fits {kind} closed o true false n p e = every (Fits {kind = kind} closed o true false n) refl refl refl refl refl refl refl refl p
+fits {kind} closed o false true n p e = every (Fits {kind = kind} closed o false true n) refl refl refl refl refl refl refl refl p
+fits {kind} closed o false false n p e = every (Fits {kind = kind} closed o false false n) refl refl refl refl refl refl refl refl p
 
-stays-unbegun : (x : Happening) (o g w : Bool) → move x o g w false Unbegun ≡ Unbegun
+stays-unbegun : {kind : Kind} (x : Happening kind) (o g w : Bool) → move x o g w false Unbegun ≡ Unbegun
 stays-unbegun began o g w = refl
 stays-unbegun (finished x y z) o g w = refl
 stays-unbegun lost o g w = refl
@@ -136,7 +137,7 @@ stays-unbegun (changed c) o g w = refl
 stays-unbegun closed o g w = refl
 
 -- a number above the last begun has not begun
-pub above : (h : List Happening) (k : ℕ) → begunIn h < k → fate h k ≡ Unbegun
+pub above : {kind : Kind} (h : List (Happening kind)) (k : ℕ) → begunIn h < k → fate h k ≡ Unbegun
 above [] k l = refl
 above (began ∷ h) k l = rw (ne-eqb k (suc (begunIn h)) (λ e. omega arith)) (above h k (omega arith))
 above (finished x y z ∷ h) k l = rw (above h k l)
@@ -147,11 +148,11 @@ above (changed c ∷ h) k l = above h k l
 above (closed ∷ h) k l = rw (above h k l)
 
 -- nor has 0
-pub zeroth : (h : List Happening) → fate h 0 ≡ Unbegun
+pub zeroth : {kind : Kind} (h : List (Happening kind)) → fate h 0 ≡ Unbegun
 zeroth [] = refl
 zeroth (x ∷ h) = rw (eqb·zero-suc (begunIn h), zeroth h) (stays-unbegun x (openIn h) (wholeIn h) (waitsIn h))
 
-pub agree : (h : List Happening) (k : ℕ) → seen h k ≡ sightOf (fate h k)
+pub agree : {kind : Kind} (h : List (Happening kind)) (k : ℕ) → seen h k ≡ sightOf (fate h k)
 agree [] k = refl
 agree (x ∷ h) k =
     seen-more x h k
@@ -160,7 +161,7 @@ agree (x ∷ h) k =
 
 -- ---- what a reset or power event met after its beginning is gone, so that `standing` may leave it out
 
-stays-gone : (x : Happening) (h : List Happening) (k : ℕ) → whereIs h k ≡ gone → whereIs (x ∷ h) k ≡ gone
+stays-gone : {kind : Kind} (x : Happening kind) (h : List (Happening kind)) (k : ℕ) → whereIs h k ≡ gone → whereIs (x ∷ h) k ≡ gone
 stays-gone began h k e =
     rw (ne-eqb k (suc (begunIn h)) (λ q. let z : sightOf (fate h k) .at ≡ gone = sym (ap (λ (s : Sight). s .at) (agree h k)) ∙ e in
     let y : unbegun ≡ gone = rw (above h k (omega arith)) at z in
@@ -179,7 +180,7 @@ loses-begun waiting e = refl
 loses-begun shown e = refl
 loses-begun gone e = refl
 
-met : (x : Happening) (h : List Happening) (k : ℕ) → isLoss x && isBegun (whereIs h k) ≡ true → whereIs (x ∷ h) k ≡ gone
+met : {kind : Kind} (x : Happening kind) (h : List (Happening kind)) (k : ℕ) → isLoss x && isBegun (whereIs h k) ≡ true → whereIs (x ∷ h) k ≡ gone
 met began h k e = absurd (false≢true e)
 met (finished x y z) h k e = absurd (false≢true e)
 met lost h k e = loses-begun (whereIs h k) e
@@ -188,7 +189,7 @@ met (gave v) h k e = absurd (false≢true e)
 met (changed c) h k e = absurd (false≢true e)
 met closed h k e = absurd (false≢true e)
 
-lost-gone : (h : List Happening) (k : ℕ) → lostSince h k ≡ true → whereIs h k ≡ gone
+lost-gone : {kind : Kind} (h : List (Happening kind)) (k : ℕ) → lostSince h k ≡ true → whereIs h k ≡ gone
 lost-gone [] k e = absurd (false≢true e)
 lost-gone (x ∷ h) k e = go (lostSince h k) refl (lost-gone h k)
   where
@@ -196,7 +197,7 @@ lost-gone (x ∷ h) k e = go (lostSince h k) refl (lost-gone h k)
     go true q i = stays-gone x h k (i q)
     go false q i = met x h k (rw q at e)
 
-pub stands : (h : List Happening) (k : ℕ) → standing h k ≡ isPresent (whereIs h k) && not (delivered h k)
+pub stands : {kind : Kind} (h : List (Happening kind)) (k : ℕ) → standing h k ≡ isPresent (whereIs h k) && not (delivered h k)
 stands h k = go (lostSince h k) refl
   where
     go : (t : Bool) → lostSince h k ≡ t → standing h k ≡ isPresent (whereIs h k) && not (delivered h k)

@@ -6,17 +6,22 @@ use mathlib.Core.Bool.{Bool, true, false, _&&_, _||_, false≢true}
 use mathlib.Core.List.{List, [], _∷_}
 use native.Mathlib.Omega.{arith}
 use lib.Dec.{eqb, leb, ltb}
-use lib.ListN.{getD, length}
+use lib.ListN.{getD, length, take}
+use lib.Seq.{length-take-le}
 use borrow.Author.Tests.{leb-true, ltb-true, le-leb, lt-ltb, le-ltb, ne-eqb, eqb-true, eqb-false}
 use Rattle.paper.specs.Registers as reg
+use Rattle.kinds.specs.declared.Kind.{Kind}
+use Rattle.kinds.specs.Chips.{facts}
+use Rattle.kinds.proofs.Figures.{figures}
 use Rattle.machine.specs.declared.Burst.{Burst}
 use Rattle.machine.specs.declared.Burst.the-variants.{Closed, Open}
 use Rattle.machine.specs.declared.Machine.{Machine}
 use Rattle.machine.specs.State.{isOpen}
 use Rattle.machine.specs.Data.{register}
 use Rattle.machine.specs.Events.{isWhole, byteGiven}
-use Rattle.ledger.specs.Happening.{Happening}
-use Rattle.ledger.specs.History.{openedAt, givenIn, hasAddress, eachBelow, gaveData, wholeIn}
+use Rattle.ledger.specs.Happening.{Happening, began, finished, lost, opened, gave, closed, changed}
+use Rattle.ledger.specs.Bytes.{dataBytes}
+use Rattle.ledger.specs.History.{openedAt, givenIn, hasAddress, eachBelow, gaveData, wholeIn, lastFinished, beforeOpened, shownBy}
 use Rattle.ledger.proofs.Tests.{same-test, both, and-left, and-right}
 
 -- ---- addresses from i up to j
@@ -69,7 +74,7 @@ spans-gave i j f v l s = record {
         lt-of : a < j + 1 → (a ≡ j → ⊥) → a < j
         lt-of u n = omega arith
 
--- ---- all of F7 to FE
+-- ---- all of the part's data bytes
 
 each-from : (n : ℕ) (f : ℕ → Bool) → ((k : ℕ) → k < n → f k ≡ true) → eachBelow n f ≡ true
 each-from zero f p = refl
@@ -84,29 +89,42 @@ each-at (suc n) f e k l = at (eqb k n) refl (each-at n f (and-right (f n) (eachB
     at false q i = let z = eqb-false k n q in i (omega arith)
 
 -- the machine's test of a burst from i, next at j
-spans-whole : (i j : ℕ) (h : List Happening) → Spans i j (openedAt h) (givenIn h) → isWhole (Open i j) ≡ wholeIn h
+spans-whole : {kind : Kind} (i j : ℕ) (h : List (Happening kind)) → Spans i j (openedAt h) (givenIn h) → isWhole kind (Open i j) ≡ wholeIn h
 unfolding wholeIn
-spans-whole i j h s = same-test (isWhole (Open i j)) (eachBelow reg.dataLength (gaveData h)) all ends
+spans-whole {kind} i j h s = same-test (isWhole kind (Open i j)) (eachBelow bytes (gaveData h)) all ends
   where
-    all : isWhole (Open i j) ≡ true → eachBelow reg.dataLength (gaveData h) ≡ true
+    bytes : ℕ
+    bytes = facts kind .bytes
+
+    last : ℕ
+    last = facts kind .last
+
+    ends-at : reg.firstData + bytes ≡ last + 1
+    ends-at = figures kind .ends-at
+
+    some : 1 ≤ bytes
+    some = figures kind .some
+
+    all : isWhole kind (Open i j) ≡ true → eachBelow bytes (gaveData h) ≡ true
     all e =
-        let low = leb-true i reg.firstData (and-left (leb i reg.firstData) (ltb reg.lastData j) e) in
-        let high = ltb-true reg.lastData j (and-right (leb i reg.firstData) (ltb reg.lastData j) e) in
-        each-from reg.dataLength (gaveData h) (λ k l. s .given-is (reg.firstData + k) ∙ within-from i j (reg.firstData + k) (omega arith) (omega arith))
+        let low = leb-true i reg.firstData (and-left (leb i reg.firstData) (ltb last j) e) in
+        let high = ltb-true last j (and-right (leb i reg.firstData) (ltb last j) e) in
+        each-from bytes (gaveData h) (λ k l. s .given-is (reg.firstData + k) ∙ within-from i j (reg.firstData + k) (omega arith) (omega (arith, ends-at)))
 
-    ends : eachBelow reg.dataLength (gaveData h) ≡ true → isWhole (Open i j) ≡ true
+    ends : eachBelow bytes (gaveData h) ≡ true → isWhole kind (Open i j) ≡ true
     ends e =
-        let low = within-low i j reg.firstData (sym (s .given-is reg.firstData) ∙ each-at reg.dataLength (gaveData h) e 0 (omega arith)) in
-        let high = within-high i j reg.lastData (sym (s .given-is reg.lastData) ∙ each-at reg.dataLength (gaveData h) e 7 (omega arith)) in
-        both (leb i reg.firstData) (ltb reg.lastData j) (le-leb i reg.firstData low) (lt-ltb reg.lastData j high)
+        let low = within-low i j reg.firstData (sym (s .given-is reg.firstData) ∙ each-at bytes (gaveData h) e 0 some) in
+        let at-last = each-at bytes (gaveData h) e (bytes - 1) (omega (arith, some)) in
+        let high = within-high i j (reg.firstData + (bytes - 1)) (sym (s .given-is (reg.firstData + (bytes - 1))) ∙ at-last) in
+        both (leb i reg.firstData) (ltb last j) (le-leb i reg.firstData low) (lt-ltb last j (omega (arith, ends-at, some, high)))
 
-pub whole-is : (b : Burst) (h : List Happening) → isOpen b ≡ true → Spanned b (openedAt h) (givenIn h) → isWhole b ≡ wholeIn h
+pub whole-is : {kind : Kind} (b : Burst) (h : List (Happening kind)) → isOpen b ≡ true → Spanned b (openedAt h) (givenIn h) → isWhole kind b ≡ wholeIn h
 whole-is Closed h o s = absurd (false≢true o)
 whole-is (Open i j) h o s = spans-whole i j h s
 
 -- ---- the bytes
 
-pub register-data : (a : ℕ) (m : Machine) → reg.firstData ≤ a → a ≤ reg.lastData → register a m ≡ getD (m .shown .bytes) (a - reg.firstData) 0
+pub register-data : (a : ℕ) (m : Machine) → reg.firstData ≤ a → a ≤ facts (m .device .kind) .last → register a m ≡ getD (m .shown .bytes) (a - reg.firstData) 0
 register-data a m l u =
     rw (
       ne-eqb a reg.chipId (λ e. omega arith),
@@ -115,8 +133,23 @@ register-data a m l u =
       ne-eqb a reg.ctrlMeas (λ e. omega arith),
       ne-eqb a reg.config (λ e. omega arith),
       le-ltb a reg.firstData l,
-      le-ltb reg.lastData a u,
+      le-ltb (facts (m .device .kind) .last) a u,
     )
 
 pub gives-value : (m : Machine) (i j : ℕ) → m .burst ≡ Open i j → ltb reg.lastRegister j ≡ false → byteGiven m .value ≡ register j m
 gives-value m i j e l = rw (e, l)
+
+-- a conversion's bytes have eight places, of which the part's own are as many as it has
+eight-places : {kind : Kind} (h : List (Happening kind)) → length (lastFinished h .bytes) ≡ reg.dataLength
+unfolding dataBytes
+eight-places {kind} [] = figures kind .places
+eight-places (began ∷ h) = eight-places h
+eight-places (finished x y z ∷ h) = refl
+eight-places {kind} (lost ∷ h) = figures kind .places
+eight-places (opened a ∷ h) = eight-places h
+eight-places (gave v ∷ h) = eight-places h
+eight-places (closed ∷ h) = eight-places h
+eight-places (changed x ∷ h) = eight-places h
+
+pub as-many : {kind : Kind} (h : List (Happening kind)) → length (take (facts kind .bytes) (shownBy h .bytes)) ≡ facts kind .bytes
+as-many {kind} h = length-take-le (facts kind .bytes) (shownBy h .bytes) (omega (arith, figures kind .at-most, eight-places (beforeOpened h)))

@@ -6,6 +6,7 @@ use mathlib.Core.List.{List, [], _∷_}
 use native.Mathlib.Omega.{arith}
 use lib.Dec.{eqb}
 use borrow.Author.Tests.{eqb-true, eq-eqb, ne-eqb}
+use Rattle.kinds.specs.declared.Kind.{Kind}
 use Rattle.machine.specs.declared.Codes.{Codes}
 use Rattle.ledger.specs.Happening.{Happening, began, finished, lost, opened, gave, closed, changed}
 use Rattle.ledger.specs.History.{begunIn, openIn, wholeIn, waitsIn, Measurement, noMeasurement, bit}
@@ -24,7 +25,7 @@ Named u n v s k Delivered = Unit {0}
 Named u n v s k Overwritten = Unit {0}
 Named u n v s k Abandoned = Unit {0}
 
-pub record Names (u : Bool) (b : Book) (h : List Happening) : Type 0 where
+pub record Names {kind : Kind} (u : Bool) (b : Book) (h : List (Happening kind)) : Type 0 where
   pub named : (k : ℕ) → Named u (begunIn h) (b .waiting) (b .shown) k (fate h k)
   pub run-at : u ≡ true → fate h (begunIn h) ≡ Running
   pub wait-at : some (b .waiting) ≡ true → fate h (b .waiting .number) ≡ Waiting
@@ -33,8 +34,8 @@ pub record Names (u : Bool) (b : Book) (h : List Happening) : Type 0 where
   pub shown-le : b .shown .number ≤ begunIn h
   pub none-read : some (b .shown) ≡ false → b .read ≡ false
 
-pub names-fresh : Names false fresh []
-names-fresh = record {
+pub names-fresh : (kind : Kind) → Names {kind = kind} false (fresh kind) []
+names-fresh kind = record {
   named = λ k. tt;
   run-at = λ e. absurd (false≢true e);
   wait-at = λ e. absurd (false≢true e);
@@ -45,10 +46,10 @@ names-fresh = record {
 }
 
 -- a new beginning moves no conversion begun before
-old : (h : List Happening) (k : ℕ) → k ≤ begunIn h → fate (began ∷ h) k ≡ fate h k
+old : {kind : Kind} (h : List (Happening kind)) (k : ℕ) → k ≤ begunIn h → fate (began ∷ h) k ≡ fate h k
 old h k l = rw (ne-eqb k (suc (begunIn h)) (λ e. omega arith))
 
-latest-le : (u : Bool) (b : Book) (h : List Happening) → Names u b h → latest b .number ≤ begunIn h
+latest-le : {kind : Kind} (u : Bool) (b : Book) (h : List (Happening kind)) → Names u b h → latest b .number ≤ begunIn h
 latest-le u b h p = at (some (b .waiting)) refl
   where
     at : (w : Bool) → some (b .waiting) ≡ w → latest b .number ≤ begunIn h
@@ -56,46 +57,46 @@ latest-le u b h p = at (some (b .waiting)) refl
     at false e = rw e (p .shown-le)
 
 -- a shown conversion, read or not: while a burst is open, and at a close with none waiting
-shown-stays : (x y z : ℕ) (g w n t : Bool) → move (finished x y z) true g w n (cond t Read Unread) ≡ cond t Read Unread
-shown-stays x y z g w n true = refl
-shown-stays x y z g w n false = refl
+shown-stays : (kind : Kind) (x y z : ℕ) (g w n t : Bool) → move {kind = kind} (finished x y z) true g w n (cond t Read Unread) ≡ cond t Read Unread
+shown-stays kind x y z g w n true = refl
+shown-stays kind x y z g w n false = refl
 
-shown-closes : (o g n t : Bool) → move closed o g false n (cond t Read Unread) ≡ cond (cond g true t) Read Unread
-shown-closes o true n true = refl
-shown-closes o true n false = refl
-shown-closes o false n true = refl
-shown-closes o false n false = refl
+shown-closes : (kind : Kind) (o g n t : Bool) → move {kind = kind} closed o g false n (cond t Read Unread) ≡ cond (cond g true t) Read Unread
+shown-closes kind o true n true = refl
+shown-closes kind o true n false = refl
+shown-closes kind o false n true = refl
+shown-closes kind o false n false = refl
 
-module _ (n : ℕ) (v s : Measurement) (k : ℕ) where
+module _ (kind : Kind) (n : ℕ) (v s : Measurement) (k : ℕ) where
   named-began : (t : Bool) → (t ≡ true → k ≡ suc n) → (q : Fate) → Named false n v s k q → Named true (suc n) v s k (cond t Running q)
   named-began true e = λ q m. (refl, e refl)
   named-began false e = every (λ q. Named false n v s k q → Named true (suc n) v s k q)
       (λ m. m) (λ m. absurd (false≢true (m .0))) (λ m. m) (λ m. m) (λ m. m) (λ m. m) (λ m. m) (λ m. m)
 
   named-finished : (x y z : ℕ) (o g w t u : Bool) (c : Measurement) → some c ≡ true → n ≡ c .number → (q : Fate) → Named u n v s k q
-      → Named false n (cond o c noMeasurement) (cond o s c) k (move (finished x y z) o g w t q)
-  named-finished x y z true g w t u c f e = every (λ q. Named u n v s k q → Named false n c s k (move (finished x y z) true g w t q))
+      → Named false n (cond o c (noMeasurement kind)) (cond o s c) k (move {kind = kind} (finished x y z) o g w t q)
+  named-finished x y z true g w t u c f e = every (λ q. Named u n v s k q → Named false n c s k (move {kind = kind} (finished x y z) true g w t q))
       (λ m. tt) (λ m. (f, m .1 ∙ e)) (λ m. tt) (λ m. m) (λ m. m) (λ m. tt) (λ m. tt) (λ m. tt)
-  named-finished x y z false g w t u c f e = every (λ q. Named u n v s k q → Named false n noMeasurement c k (move (finished x y z) false g w t q))
+  named-finished x y z false g w t u c f e = every (λ q. Named u n v s k q → Named false n (noMeasurement kind) c k (move {kind = kind} (finished x y z) false g w t q))
       (λ m. tt) (λ m. m .1 ∙ e) (λ m. tt) (λ m. tt) (λ m. tt) (λ m. tt) (λ m. tt) (λ m. tt)
 
-  named-lost : (o g w t : Bool) (q : Fate) → Named false n noMeasurement noMeasurement k (move lost o g w t q)
-  named-lost o g w t = every (λ q. Named false n noMeasurement noMeasurement k (move lost o g w t q)) tt tt tt tt tt tt tt tt
+  named-lost : (o g w t : Bool) (q : Fate) → Named false n (noMeasurement kind) (noMeasurement kind) k (move {kind = kind} lost o g w t q)
+  named-lost o g w t = every (λ q. Named false n (noMeasurement kind) (noMeasurement kind) k (move {kind = kind} lost o g w t q)) tt tt tt tt tt tt tt tt
 
-  named-closed : (o g w t u : Bool) → some v ≡ w → (q : Fate) → Named u n v s k q → Named u n noMeasurement (cond w v s) k (move closed o g w t q)
-  named-closed o true true t u e = every (λ q. Named u n v s k q → Named u n noMeasurement v k (move closed o true true t q))
+  named-closed : (o g w t u : Bool) → some v ≡ w → (q : Fate) → Named u n v s k q → Named u n (noMeasurement kind) (cond w v s) k (move {kind = kind} closed o g w t q)
+  named-closed o true true t u e = every (λ q. Named u n v s k q → Named u n (noMeasurement kind) v k (move {kind = kind} closed o true true t q))
       (λ m. tt) (λ m. m) (λ m. m .1) (λ m. tt) (λ m. tt) (λ m. tt) (λ m. tt) (λ m. tt)
-  named-closed o false true t u e = every (λ q. Named u n v s k q → Named u n noMeasurement v k (move closed o false true t q))
+  named-closed o false true t u e = every (λ q. Named u n v s k q → Named u n (noMeasurement kind) v k (move {kind = kind} closed o false true t q))
       (λ m. tt) (λ m. m) (λ m. m .1) (λ m. tt) (λ m. tt) (λ m. tt) (λ m. tt) (λ m. tt)
-  named-closed o true false t u e = every (λ q. Named u n v s k q → Named u n noMeasurement s k (move closed o true false t q))
+  named-closed o true false t u e = every (λ q. Named u n v s k q → Named u n (noMeasurement kind) s k (move {kind = kind} closed o true false t q))
       (λ m. tt) (λ m. m) (λ m. absurd (true≢false (sym (m .0) ∙ e))) (λ m. m) (λ m. m) (λ m. tt) (λ m. tt) (λ m. tt)
-  named-closed o false false t u e = every (λ q. Named u n v s k q → Named u n noMeasurement s k (move closed o false false t q))
+  named-closed o false false t u e = every (λ q. Named u n v s k q → Named u n (noMeasurement kind) s k (move {kind = kind} closed o false false t q))
       (λ m. tt) (λ m. m) (λ m. absurd (true≢false (sym (m .0) ∙ e))) (λ m. m) (λ m. m) (λ m. tt) (λ m. tt) (λ m. tt)
 
-pub names-enter : (x : Happening) (u : Bool) (c : Codes) (b : Book) (h : List Happening) → Asks x u (b .burst) → Right u b h → Names u b h
+pub names-enter : {kind : Kind} (x : Happening kind) (u : Bool) (c : Codes) (b : Book) (h : List (Happening kind)) → Asks x u (b .burst) → Right u b h → Names u b h
     → Names (runs x u) (enter x (wholeIn h) c b) (x ∷ h)
-names-enter began u c b h a r p = record {
-  named = λ k. named-began (begunIn h) (b .waiting) (b .shown) k (eqb k (suc (begunIn h))) (eqb-true k (suc (begunIn h))) (fate h k) (rw a at (p .named k));
+names-enter {kind} began u c b h a r p = record {
+  named = λ k. named-began kind (begunIn h) (b .waiting) (b .shown) k (eqb k (suc (begunIn h))) (eqb-true k (suc (begunIn h))) (fate h k) (rw a at (p .named k));
   run-at = λ e. rw (eq-eqb (suc (begunIn h)) (suc (begunIn h)) refl);
   wait-at = λ e. old h (b .waiting .number) (p .wait-le) ∙ p .wait-at e;
   shown-at = λ e. old h (b .shown .number) (p .shown-le) ∙ p .shown-at e;
@@ -103,24 +104,24 @@ names-enter began u c b h a r p = record {
   shown-le = omega (arith, p .shown-le);
   none-read = p .none-read;
 }
-names-enter (finished x y z) u c b h a r p = at (b .burst) refl
+names-enter {kind} (finished x y z) u c b h a r p = at (b .burst) refl
   where
     one : nonzero (b .ledger .begun) ≡ true
     one = nonzero-pos (b .ledger .begun) (omega (arith, r .begun-is, r .begun-some, ap bit a))
 
     moves : (o : Bool) → openIn h ≡ o → (k : ℕ)
-        → Named false (begunIn h) (cond o (made b x y z) noMeasurement) (cond o (b .shown) (made b x y z)) k (fate (finished x y z ∷ h) k)
+        → Named false (begunIn h) (cond o (made kind b x y z) (noMeasurement kind)) (cond o (b .shown) (made kind b x y z)) k (fate (finished x y z ∷ h) k)
     moves o e k = rw e
-        (named-finished (begunIn h) (b .waiting) (b .shown) k x y z o (wholeIn h) (waitsIn h) (eqb k (suc (begunIn h))) u (made b x y z) one (sym (r .begun-is)) (fate h k) (p .named k))
+        (named-finished kind (begunIn h) (b .waiting) (b .shown) k x y z o (wholeIn h) (waitsIn h) (eqb k (suc (begunIn h))) u (made kind b x y z) one (sym (r .begun-is)) (fate h k) (p .named k))
 
-    at : (o : Bool) → b .burst ≡ o → Names false (enter (finished x y z) (wholeIn h) c b) (finished x y z ∷ h)
+    at : (o : Bool) → b .burst ≡ o → Names false (enter {kind = kind} (finished x y z) (wholeIn h) c b) (finished x y z ∷ h)
     at true e =
         let o : openIn h ≡ true = sym (r .open-is) ∙ e in
         rw (e, enter) (record {
           named = moves true o;
           run-at = λ q. absurd (false≢true q);
           wait-at = λ q. rw (o, r .begun-is, p .run-at a);
-          shown-at = λ q. rw (o, p .shown-at q) (shown-stays x y z (wholeIn h) (waitsIn h) (eqb (b .shown .number) (suc (begunIn h))) (b .read));
+          shown-at = λ q. rw (o, p .shown-at q) (shown-stays kind x y z (wholeIn h) (waitsIn h) (eqb (b .shown .number) (suc (begunIn h))) (b .read));
           wait-le = omega (arith, r .begun-is);
           shown-le = p .shown-le;
           none-read = p .none-read;
@@ -136,8 +137,8 @@ names-enter (finished x y z) u c b h a r p = at (b .burst) refl
           shown-le = omega (arith, r .begun-is);
           none-read = λ q. refl;
         })
-names-enter lost u c b h a r p = record {
-  named = λ k. named-lost (begunIn h) noMeasurement noMeasurement k (openIn h) (wholeIn h) (waitsIn h) (eqb k (suc (begunIn h))) (fate h k);
+names-enter {kind} lost u c b h a r p = record {
+  named = λ k. named-lost kind (begunIn h) (noMeasurement kind) (noMeasurement kind) k (openIn h) (wholeIn h) (waitsIn h) (eqb k (suc (begunIn h))) (fate h k);
   run-at = λ e. absurd (false≢true e);
   wait-at = λ e. absurd (false≢true e);
   shown-at = λ e. absurd (false≢true e);
@@ -172,11 +173,11 @@ names-enter (changed x) u c b h a r p = record {
   shown-le = p .shown-le;
   none-read = p .none-read;
 }
-names-enter closed u c b h a r p = at (wholeIn h) refl
+names-enter {kind} closed u c b h a r p = at (wholeIn h) refl
   where
-    moves : (g : Bool) → wholeIn h ≡ g → (k : ℕ) → Named u (begunIn h) noMeasurement (latest b) k (fate (closed ∷ h) k)
+    moves : (g : Bool) → wholeIn h ≡ g → (k : ℕ) → Named u (begunIn h) (noMeasurement kind) (latest b) k (fate (closed ∷ h) k)
     moves g e k = rw (e, ← r .waits-is)
-        (named-closed (begunIn h) (b .waiting) (b .shown) k (openIn h) g (some (b .waiting)) (eqb k (suc (begunIn h))) u refl (fate h k) (p .named k))
+        (named-closed kind (begunIn h) (b .waiting) (b .shown) k (openIn h) g (some (b .waiting)) (eqb k (suc (begunIn h))) u refl (fate h k) (p .named k))
 
     -- whole: what was shown is read; partial: it is as it was
     shows : (g f : Bool) → wholeIn h ≡ g → (some (b .shown) ≡ true → cond g true (b .read) ≡ f) → (w : Bool) → some (b .waiting) ≡ w → some (latest b) ≡ true
@@ -184,13 +185,13 @@ names-enter closed u c b h a r p = at (wholeIn h) refl
     shows g f e q true w s = rw (w, p .wait-at w)
     shows g f e q false w s =
         let t : some (b .shown) ≡ true = rw w at s in
-        rw (w, p .shown-at t, ← r .waits-is, w, e, ← q t) (shown-closes (openIn h) g (eqb (b .shown .number) (suc (begunIn h))) (b .read))
+        rw (w, p .shown-at t, ← r .waits-is, w, e, ← q t) (shown-closes kind (openIn h) g (eqb (b .shown .number) (suc (begunIn h))) (b .read))
 
     idle : (f : Bool) → (some (b .shown) ≡ false → f ≡ false) → (w : Bool) → some (b .waiting) ≡ w → some (latest b) ≡ false → not (some (b .waiting)) && f ≡ false
     idle f q true w s = rw w
     idle f q false w s = rw w (q (rw w at s))
 
-    at : (g : Bool) → wholeIn h ≡ g → Names u (enter closed (wholeIn h) c b) (closed ∷ h)
+    at : (g : Bool) → wholeIn h ≡ g → Names u (enter {kind = kind} closed (wholeIn h) c b) (closed ∷ h)
     at true e = rw (e, enter) (record {
       named = moves true e;
       run-at = λ q. rw (p .run-at q);

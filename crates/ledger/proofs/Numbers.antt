@@ -4,9 +4,11 @@ use mathlib.Core.Path.{_≡_, refl, sym, ap, _∙_}
 use mathlib.Core.Bool.{Bool, true, false, not, _&&_, _||_, and-comm}
 use mathlib.Core.List.{List}
 use native.Mathlib.Omega.{arith}
-use lib.Dec.{leb}
+use lib.Dec.{eqb, leb}
 use borrow.Author.Tests.{leb-true, le-leb, eqb-true, eq-eqb}
 use Rattle.paper.specs.Registers as reg
+use Rattle.kinds.specs.declared.Kind.{Kind}
+use Rattle.kinds.specs.Chips.{facts, isWritable}
 use Rattle.machine.specs.declared.Held.{Held}
 use Rattle.machine.specs.declared.Held.the-variants.{Nothing, Byte}
 use Rattle.machine.specs.declared.Burst.the-variants as burst
@@ -28,7 +30,7 @@ use Rattle.ledger.specs.Answers.{holds, heldBegins, allBegunIn, mayWrite
 use Rattle.ledger.proofs.Tests.{same-test}
 use Rattle.ledger.proofs.Given.{Spans}
 use Rattle.ledger.proofs.Control.{runs-is, sleeps-is, stands-is, begins-is, held-begins-is, rested-phase, finished-idle}
-use Rattle.ledger.proofs.Kept.{Kept}
+use Rattle.ledger.proofs.Kept.{Kept, tested}
 
 holds-is : (q : Held) → isHeld q ≡ holds q
 holds-is Nothing = refl
@@ -40,9 +42,12 @@ writes-as true true = refl
 writes-as true false = refl
 writes-as false r = refl
 
-module _ (m : Machine) (h : List Happening) (k : Kept m h) where
+module _ {kind : Kind} (m : Machine) (h : List (Happening kind)) (k : Kept m h) where
   opens : isOpen (m .burst) ≡ openIn h
   opens = k .right .open-is
+
+  all-lent : eqb (facts (m .device .kind) .bytes) (facts kind .bytes) ≡ true
+  all-lent = let n = facts (m .device .kind) .bytes in tested (λ x. eqb n (facts x .bytes)) k (eq-eqb n n refl)
 
   pub copies : m .device .copying ≡ deviceIn h .copying
   copies = ap (λ (d : Device). d .copying) (k .device-is)
@@ -92,9 +97,9 @@ module _ (m : Machine) (h : List Happening) (k : Kept m h) where
   pub refusal : (e : Event) (n : ℕ) → Refuses m e n → n ≡ numberIn h e
   refusal e n (Walk.not-copying c) = rw (← copies, c)
   refusal e n (Walk.write-in-burst a v o) = rw (← opens, o)
-  refusal e n (Walk.write-elsewhere a v o w) = rw (← opens, o, w)
+  refusal e n (Walk.write-elsewhere a v o w) = rw (← opens, o, tested (λ x. isWritable x a) k w)
   refusal e n (Walk.reset-otherwise v o q) = rw (← opens, o, q)
-  refusal e n (Walk.write-copying a v o w r c) = rw (← opens, o, w, r, ← may-write, c)
+  refusal e n (Walk.write-copying a v o w r c) = rw (← opens, o, tested (λ x. isWritable x a) k w, r, ← may-write, c)
   refusal e n (Walk.f5-awake v c s) = rw (closed-in c, may-control c, ← sleeps-in, s)
   refusal e n (Walk.f4-held v c u q) = rw (closed-in c, may-control c, ← runs-in, u, ← holds-in, q)
   refusal e n (Walk.f4-barred v c i b) = rw (closed-in c, may-control c, ← runs-in, i, ← barred-by v i, b)
@@ -108,18 +113,18 @@ module _ (m : Machine) (h : List Happening) (k : Kept m h) where
   refusal e n (Walk.byte-without-burst o) = rw (← opens, o)
   refusal e n (Walk.byte-past-last i j b l) = rw (← opens, b, ← address-is i j b, l)
   refusal e n (Walk.close-without-burst c o) = rw (← opens, o)
-  refusal e n (Walk.close-wrong-length c o l) = rw (← opens, o, l)
+  refusal e n (Walk.close-wrong-length c o l) = rw (← opens, o, tested (λ x. eqb c (facts x .bytes)) k l)
 
-abbrev Numbered : Machine → Event → Outcome → Type 0
-Numbered m e o = (h : List Happening) → Kept m h → o .answer ≡ numberIn h e
+abbrev Numbered : Kind → Machine → Event → Outcome → Type 0
+Numbered kind m e o = (h : List (Happening kind)) → Kept m h → o .answer ≡ numberIn h e
 
-pub numbered : Steps Numbered
-numbered = record {
+pub numbered : (kind : Kind) → Steps (Numbered kind)
+numbered kind = record {
   refuses = λ m e n r h k. refusal m h k e n r;
   powers = λ m h k. refl;
   copies = λ m c h k. rw (← copies m h k, c);
   resets = λ m o h k. rw (← opens m h k, o);
-  writes-f2 = λ m v c h k. rw (closed-in m h k c, may-control m h k c);
+  writes-f2 = λ m v c f h k. rw (closed-in m h k c, tested (λ x. facts x .humidity) k f, may-control m h k c);
   writes-f5 = λ m v c s h k. rw (closed-in m h k c, may-control m h k c, ← sleeps-in m h k, s);
   holds-f4 = λ m v c u q h k. rw (closed-in m h k c, may-control m h k c, ← runs-in m h k, u, ← holds-in m h k, q);
   takes-f4 = λ m v c i b h k. rw (closed-in m h k c, may-control m h k c, ← runs-in m h k, i, ← barred-by m h k v i, b);
@@ -127,9 +132,9 @@ numbered = record {
   wakes = λ m y b h k. rw (← stands-in m h k, y, ← all-begun m h k, b);
   opens = λ m a o r h k. rw (← opens m h k, o, r);
   gives = λ m i j e l h k. rw (← opens m h k, e, ← address-is m h k i j e, l);
-  ends-whole = λ m o w h k. rw (← opens m h k, o);
-  ends-partial = λ m o w h k. rw (← opens m h k, o);
+  ends-whole = λ m o w h k. rw (← opens m h k, o, all-lent m h k);
+  ends-partial = λ m o w h k. rw (← opens m h k, o, all-lent m h k);
 }
 
-pub number-is : (m : Machine) (h : List Happening) → Kept m h → (e : Event) → answer m e ≡ numberIn h e
-number-is m h k e = walk Numbered numbered m e h k
+pub number-is : {kind : Kind} (m : Machine) (h : List (Happening kind)) → Kept m h → (e : Event) → answer m e ≡ numberIn h e
+number-is {kind} m h k e = walk (Numbered kind) (numbered kind) m e h k

@@ -4,6 +4,7 @@ use mathlib.Core.Path.{_≡_, refl, sym, ap, ap₂, _∙_}
 use mathlib.Core.Bool.{Bool, true, false, cond, false≢true}
 use mathlib.Core.List.{List, [], _∷_}
 use native.Mathlib.Omega.{arith}
+use Rattle.kinds.specs.declared.Kind.{Kind}
 use Rattle.machine.specs.declared.Codes.{Codes}
 use Rattle.ledger.specs.Happening.{Happening, began, finished, lost, opened, gave, closed, changed}
 use Rattle.ledger.specs.History.{begunIn, codesIn, openIn, wholeIn, waitsIn, Measurement, lastFinished, shownBy, bit}
@@ -11,14 +12,14 @@ use Rattle.ledger.proofs.Tally.{Counts, counts, same, add, oneRuns, flo
 use Rattle.ledger.proofs.Book.{Book, nonzero, nonzero-pos, some, unread, latest, fresh, enter, Asks, runs, unread-whole, unread-partial}
 
 -- the conversion that is shown, in a burst or not
-abbrev shownNow : List Happening → Measurement
+abbrev shownNow : {kind : Kind} → List (Happening kind) → Measurement
 shownNow h = cond (openIn h) (shownBy h) (lastFinished h)
 
 -- u: one is running
 abbrev kept : Bool → Book → Counts
 kept u b = counts (b .ledger .delivered) (b .ledger .overwritten) (b .ledger .abandoned) (bit u) (bit (some (b .waiting))) (bit (unread b))
 
-pub record Right (u : Bool) (b : Book) (h : List Happening) : Type 0 where
+pub record Right {kind : Kind} (u : Bool) (b : Book) (h : List (Happening kind)) : Type 0 where
   pub begun-is : b .ledger .begun ≡ begunIn h
   pub begun-some : bit u ≤ begunIn h
   pub codes-is : u ≡ true → b .codes ≡ codesIn h
@@ -29,8 +30,8 @@ pub record Right (u : Bool) (b : Book) (h : List Happening) : Type 0 where
   pub counts-are : total h ≡ kept u b
   pub standing-is : b .ledger .standing ≡ bit u + bit (some (b .waiting)) + bit (unread b)
 
-pub right-fresh : Right false fresh []
-right-fresh = record {
+pub right-fresh : (kind : Kind) → Right {kind = kind} false (fresh kind) []
+right-fresh kind = record {
   begun-is = refl;
   begun-some = omega arith;
   codes-is = λ e. absurd (false≢true e);
@@ -38,12 +39,12 @@ right-fresh = record {
   waits-is = refl;
   shown-is = refl;
   latest-is = refl;
-  counts-are = total-none;
+  counts-are = total-none kind;
   standing-is = refl;
 }
 
 -- where no burst is open nothing waits
-pub none-waits : (h : List Happening) → openIn h ≡ false → waitsIn h ≡ false
+pub none-waits : {kind : Kind} (h : List (Happening kind)) → openIn h ≡ false → waitsIn h ≡ false
 none-waits [] e = refl
 none-waits (began ∷ h) e = none-waits h e
 none-waits (finished x y z ∷ h) e = e
@@ -54,7 +55,7 @@ none-waits (changed c ∷ h) e = none-waits h e
 none-waits (closed ∷ h) e = refl
 
 -- the counts add up
-pub right-sum : (u : Bool) (b : Book) (h : List Happening) → Right u b h
+pub right-sum : {kind : Kind} (u : Bool) (b : Book) (h : List (Happening kind)) → Right u b h
     → b .ledger .delivered + b .ledger .overwritten + b .ledger .abandoned + b .ledger .standing ≡ b .ledger .begun
 right-sum u b h r =
     let c = counted h in
@@ -70,15 +71,15 @@ right-sum u b h r =
       r .begun-is,
     )
 
-partial-flow : (o u : Bool) (c : Codes) (b : Book) → flow closed o false (some (b .waiting)) (kept u b) ≡ kept u (enter closed false c b)
-partial-flow o u c b = at (some (b .waiting)) refl
+partial-flow : (kind : Kind) (o u : Bool) (c : Codes) (b : Book) → flow {kind = kind} closed o false (some (b .waiting)) (kept u b) ≡ kept u (enter {kind = kind} closed false c b)
+partial-flow kind o u c b = at (some (b .waiting)) refl
   where
-    at : (w : Bool) → some (b .waiting) ≡ w → flow closed o false (some (b .waiting)) (kept u b) ≡ kept u (enter closed false c b)
+    at : (w : Bool) → some (b .waiting) ≡ w → flow {kind = kind} closed o false (some (b .waiting)) (kept u b) ≡ kept u (enter {kind = kind} closed false c b)
     at true e = rw (e, e)
     at false e = rw e (same refl (omega arith) refl refl refl (omega arith))
 
 -- c: the codes that are latched after it
-pub right-enter : (x : Happening) (u : Bool) (c : Codes) (b : Book) (h : List Happening) → (runs x u ≡ true → c ≡ codesIn (x ∷ h)) → Asks x u (b .burst) → Right u b h
+pub right-enter : {kind : Kind} (x : Happening kind) (u : Bool) (c : Codes) (b : Book) (h : List (Happening kind)) → (runs x u ≡ true → c ≡ codesIn (x ∷ h)) → Asks x u (b .burst) → Right u b h
     → Right (runs x u) (enter x (wholeIn h) c b) (x ∷ h)
 right-enter began u c b h q a r = record {
   begun-is = omega (arith, r .begun-is);
@@ -93,15 +94,15 @@ right-enter began u c b h q a r = record {
       ∙ same (omega arith) (omega arith) (omega arith) (omega (arith, ap bit a)) (omega arith) (omega arith);
   standing-is = omega (arith, ap bit a, r .standing-is);
 }
-right-enter (finished x y z) u c b h q a r = at (b .burst) refl
+right-enter {kind} (finished x y z) u c b h q a r = at (b .burst) refl
   where
     one : nonzero (b .ledger .begun) ≡ true
     one = nonzero-pos (b .ledger .begun) (omega (arith, r .begun-is, r .begun-some, ap bit a))
 
-    flown : (o : Bool) → b .burst ≡ o → total (finished x y z ∷ h) ≡ flow (finished x y z) o (wholeIn h) (waitsIn h) (kept u b)
-    flown o e = total-flow (finished x y z) h refl ∙ ap₂ (λ o t. flow (finished x y z) o (wholeIn h) (waitsIn h) t) (sym (r .open-is) ∙ e) (r .counts-are)
+    flown : (o : Bool) → b .burst ≡ o → total (finished x y z ∷ h) ≡ flow {kind = kind} (finished x y z) o (wholeIn h) (waitsIn h) (kept u b)
+    flown o e = total-flow (finished x y z) h refl ∙ ap₂ (λ o t. flow {kind = kind} (finished x y z) o (wholeIn h) (waitsIn h) t) (sym (r .open-is) ∙ e) (r .counts-are)
 
-    at : (o : Bool) → b .burst ≡ o → Right false (enter (finished x y z) (wholeIn h) c b) (finished x y z ∷ h)
+    at : (o : Bool) → b .burst ≡ o → Right false (enter {kind = kind} (finished x y z) (wholeIn h) c b) (finished x y z ∷ h)
     at true e = rw (e, enter) (record {
       begun-is = r .begun-is;
       begun-some = omega arith;
@@ -126,7 +127,7 @@ right-enter (finished x y z) u c b h q a r = at (b .burst) refl
           counts-are = flown false e ∙ same refl (omega (arith, ap bit idle)) refl refl refl (rw (a, one));
           standing-is = rw one (omega (arith, r .standing-is, ap bit idle, ap bit a));
         })
-right-enter lost u c b h q a r = record {
+right-enter {kind} lost u c b h q a r = record {
   begun-is = r .begun-is;
   begun-some = omega arith;
   codes-is = q;
@@ -134,7 +135,7 @@ right-enter lost u c b h q a r = record {
   waits-is = refl;
   shown-is = refl;
   latest-is = refl;
-  counts-are = total-flow lost h refl ∙ ap (flow lost (openIn h) (wholeIn h) (waitsIn h)) (r .counts-are) ∙ same refl refl (omega (arith, r .standing-is)) refl refl refl;
+  counts-are = total-flow lost h refl ∙ ap (flow {kind = kind} lost (openIn h) (wholeIn h) (waitsIn h)) (r .counts-are) ∙ same refl refl (omega (arith, r .standing-is)) refl refl refl;
   standing-is = refl;
 }
 right-enter (opened i) u c b h q a r = record {
@@ -170,12 +171,12 @@ right-enter (changed x) u c b h q a r = record {
   counts-are = total-flow (changed x) h refl ∙ r .counts-are;
   standing-is = r .standing-is;
 }
-right-enter closed u c b h q a r = at (wholeIn h) refl
+right-enter {kind} closed u c b h q a r = at (wholeIn h) refl
   where
-    flown : (g : Bool) → wholeIn h ≡ g → total (closed ∷ h) ≡ flow closed (openIn h) g (some (b .waiting)) (kept u b)
-    flown g e = total-flow closed h refl ∙ rw (e, ← r .waits-is) (ap (flow closed (openIn h) g (some (b .waiting))) (r .counts-are))
+    flown : (g : Bool) → wholeIn h ≡ g → total (closed ∷ h) ≡ flow {kind = kind} closed (openIn h) g (some (b .waiting)) (kept u b)
+    flown g e = total-flow closed h refl ∙ rw (e, ← r .waits-is) (ap (flow {kind = kind} closed (openIn h) g (some (b .waiting))) (r .counts-are))
 
-    at : (g : Bool) → wholeIn h ≡ g → Right u (enter closed (wholeIn h) c b) (closed ∷ h)
+    at : (g : Bool) → wholeIn h ≡ g → Right u (enter {kind = kind} closed (wholeIn h) c b) (closed ∷ h)
     at true e = rw (e, enter) (record {
       begun-is = r .begun-is;
       begun-some = r .begun-some;
@@ -184,8 +185,8 @@ right-enter closed u c b h q a r = at (wholeIn h) refl
       waits-is = refl;
       shown-is = r .latest-is;
       latest-is = r .latest-is;
-      counts-are = flown true e ∙ same refl refl refl refl refl (sym (unread-whole c b));
-      standing-is = omega (arith, r .standing-is, unread-whole c b);
+      counts-are = flown true e ∙ same refl refl refl refl refl (sym (unread-whole kind c b));
+      standing-is = omega (arith, r .standing-is, unread-whole kind c b);
     })
     at false e = rw (e, enter) (record {
       begun-is = r .begun-is;
@@ -195,6 +196,6 @@ right-enter closed u c b h q a r = at (wholeIn h) refl
       waits-is = refl;
       shown-is = r .latest-is;
       latest-is = r .latest-is;
-      counts-are = flown false e ∙ partial-flow (openIn h) u c b;
-      standing-is = omega (arith, r .standing-is, unread-partial c b);
+      counts-are = flown false e ∙ partial-flow kind (openIn h) u c b;
+      standing-is = omega (arith, r .standing-is, unread-partial kind c b);
     })

@@ -43,13 +43,13 @@ pub ended-begun : (m : Machine) → ended m .ledger .begun ≡ m .ledger .begun
 unfolding showing waitingShown
 ended-begun m = pick (λ (n : Machine). n .ledger .begun ≡ m .ledger .begun) (isThere (m .waiting)) (λ _. overwritten-begun (isUnread (m .shown)) (m .ledger)) (λ _. refl)
 
-pub tidy-lands : (m : Machine) (d : Device) (x y z : ℕ) → nonzero (m .ledger .begun) ≡ true → d .held ≡ Nothing → Tidy m → Tidy (lands m d x y z)
+pub tidy-lands : (m : Machine) (d : Device) (x y z : ℕ) → d .kind ≡ m .device .kind → nonzero (m .ledger .begun) ≡ true → d .held ≡ Nothing → Tidy m → Tidy (lands m d x y z)
 unfolding keeping showing
-tidy-lands m d x y z one n t =
+tidy-lands m d x y z same one n t =
     pick (λ (n : Machine). Tidy (withDevice d n)) (isOpen (m .burst))
     (λ _. record {
       small = rw (overwritten-begun (isUnread (m .waiting)) (m .ledger)) (t .small);
-      none-shown = t .none-shown;
+      none-shown = rw same (t .none-shown);
       none-waits = λ z. absurd (true≢false (sym one ∙ z));
       unread-waits = refl;
       none-held = λ _. n;
@@ -57,7 +57,7 @@ tidy-lands m d x y z one n t =
     (λ _. record {
       small = rw (overwritten-begun (isUnread (m .shown)) (m .ledger)) (t .small);
       none-shown = λ z. absurd (true≢false (sym one ∙ z));
-      none-waits = t .none-waits;
+      none-waits = rw same (t .none-waits);
       unread-waits = t .unread-waits;
       none-held = λ _. n;
     })

@@ -6,6 +6,7 @@ use mathlib.Core.Bool.{Bool, true, false, not, _&&_}
 use mathlib.Core.List.{List, [], _∷_, _++_}
 use lib.Dec.{eqb}
 use Rattle.paper.specs.Numbers.{wrongPhase}
+use Rattle.kinds.specs.declared.Kind.{Kind}
 use Rattle.machine.specs.declared.Phase.the-variants.{Standby}
 use Rattle.machine.specs.declared.Device.{Device}
 use Rattle.machine.specs.declared.Machine.{Machine}
@@ -21,7 +22,7 @@ use Rattle.ledger.specs.History.{running, begunIn, openIn, whereIs, stan
 
 -- ---- a finish waits, after whatever history h that led to the machine m
 
-pub record FinishWaits (m : Machine) (h : List Happening) : Type 0 where
+pub record FinishWaits {kind : Kind} (m : Machine) (h : List (Happening kind)) : Type 0 where
   pub number-is : deviceIn h .copying ≡ true → (t p u : ℕ) → answer m (Finish t p u) ≡ wrongPhase
   pub leaves-all : deviceIn h .copying ≡ true → (t p u : ℕ) → Unchanged m (Finish t p u)
 
@@ -48,21 +49,21 @@ endsWait o Byte = false
 endsWait o (Close n) = false
 
 -- each of these does
-pub record EndsTheWait (m : Machine) (h : List Happening) (e : Event) : Type 0 where
+pub record EndsTheWait {kind : Kind} (m : Machine) (h : List (Happening kind)) (e : Event) : Type 0 where
   pub awaits-no-more : endsWait (openIn h) e ≡ true → awaitsCopied (next m e .device) ≡ false
 
 -- ---- nothing else does: what is never copied stands
 
 -- after the events es, none of fs is one that would
-abbrev pub NoneEnds : List Event → List Event → Type 0
-NoneEnds es [] = Unit {0}
-NoneEnds es (f ∷ fs) = (endsWait (openIn (history es)) f ≡ false) × NoneEnds (es ++ f ∷ []) fs
+abbrev pub NoneEnds : Kind → List Event → List Event → Type 0
+NoneEnds kind es [] = Unit {0}
+NoneEnds kind es (f ∷ fs) = (endsWait (openIn (history kind es)) f ≡ false) × NoneEnds kind (es ++ f ∷ []) fs
 
 -- None has begun since es. The last one still runs, waits and stands, and power or a reset abandons it.
-pub record StandsUncopied (es fs : List Event) : Type 0 where
-  pub awaits-still : awaitsCopied (after fresh (es ++ fs) .device) ≡ true
-  pub begun-is : after fresh (es ++ fs) .ledger .begun ≡ begunIn (history es)
-  pub running-is : whereIs (history (es ++ fs)) (begunIn (history es)) ≡ running
-  pub standing-is : standing (history (es ++ fs)) (begunIn (history es)) ≡ true
-  pub power-abandons : abandoned (history ((es ++ fs) ++ Power ∷ [])) (begunIn (history es)) ≡ true
-  pub reset-abandons : openIn (history (es ++ fs)) ≡ false → abandoned (history ((es ++ fs) ++ Write 0xE0 0xB6 ∷ [])) (begunIn (history es)) ≡ true
+pub record StandsUncopied (kind : Kind) (es fs : List Event) : Type 0 where
+  pub awaits-still : awaitsCopied (after (fresh kind) (es ++ fs) .device) ≡ true
+  pub begun-is : after (fresh kind) (es ++ fs) .ledger .begun ≡ begunIn (history kind es)
+  pub running-is : whereIs (history kind (es ++ fs)) (begunIn (history kind es)) ≡ running
+  pub standing-is : standing (history kind (es ++ fs)) (begunIn (history kind es)) ≡ true
+  pub power-abandons : abandoned (history kind ((es ++ fs) ++ Power ∷ [])) (begunIn (history kind es)) ≡ true
+  pub reset-abandons : openIn (history kind (es ++ fs)) ≡ false → abandoned (history kind ((es ++ fs) ++ Write 0xE0 0xB6 ∷ [])) (begunIn (history kind es)) ≡ true

@@ -3,6 +3,8 @@ use Prim.Native.Nat.{ℕ, _+_, _-_, _/_, _%_}
 use mathlib.Core.Bool.{Bool, true, false, cond, _&&_, _||_}
 use mathlib.Core.List.{List, [], _∷_}
 use lib.Dec.{eqb}
+use Rattle.kinds.specs.declared.Kind.{Kind}
+use Rattle.kinds.specs.Chips.{facts}
 use Rattle.machine.specs.declared.Phase.{Phase}
 use Rattle.machine.specs.declared.Phase.the-variants.{Sleep, Forced, Normal, Standby}
 use Rattle.machine.specs.declared.Held.the-variants as byte
@@ -49,26 +51,28 @@ abbrev pub zeroCodes : Codes
 zeroCodes = record { temperature = 0; pressure = 0; humidity = 0 }
 
 -- in the fresh state, and after a reset or power event
-abbrev pub freshly : Device
-freshly = record { phase = Sleep; copying = true; f2 = 0; f4 = 0; f5 = 0; held = byte.Nothing; codes = zeroCodes }
+abbrev pub freshly : Kind → Device
+freshly kind = record { kind = kind; phase = Sleep; copying = true; f2 = 0; f4 = 0; f5 = 0; held = byte.Nothing; codes = zeroCodes }
 
--- temperature's code is in F4's upper three bits, pressure's in the three below, humidity's in F2
-abbrev pub codesBy : ℕ → ℕ → Codes
-codesBy f4 f2 = record { temperature = f4 / 32; pressure = f4 / 4 % 8; humidity = f2 }
+-- temperature's code is in F4's upper three bits, pressure's in the three below, humidity's in F2; without humidity it is 0
+abbrev pub codesBy : Kind → ℕ → ℕ → Codes
+codesBy kind f4 f2 = record { temperature = f4 / 32; pressure = f4 / 4 % 8; humidity = cond (facts kind .humidity) f2 0 }
 
 -- F2 keeps its low three bits, F5 drops bit 1. F4 takes effect: the codes are latched, humidity's from F2 as it is then; but for mode 3 in standby the device goes
 -- to sleep, before it begins a conversion if it does.
 abbrev pub changes : Change → Device → Device
-changes copied d = record { phase = d .phase; copying = false; f2 = d .f2; f4 = d .f4; f5 = d .f5; held = d .held; codes = d .codes }
-changes (wroteF2 v) d = record { phase = d .phase; copying = d .copying; f2 = v % 8; f4 = d .f4; f5 = d .f5; held = d .held; codes = d .codes }
-changes (wroteF5 v) d = record { phase = d .phase; copying = d .copying; f2 = d .f2; f4 = d .f4; f5 = v - v % 4 + v % 2; held = d .held; codes = d .codes }
-changes (heldF4 v) d = record { phase = d .phase; copying = d .copying; f2 = d .f2; f4 = d .f4; f5 = d .f5; held = byte.Byte v; codes = d .codes }
+changes copied d = record { kind = d .kind; phase = d .phase; copying = false; f2 = d .f2; f4 = d .f4; f5 = d .f5; held = d .held; codes = d .codes }
+changes (wroteF2 v) d = record { kind = d .kind; phase = d .phase; copying = d .copying; f2 = v % 8; f4 = d .f4; f5 = d .f5; held = d .held; codes = d .codes }
+changes (wroteF5 v) d = record { kind = d .kind; phase = d .phase; copying = d .copying; f2 = d .f2; f4 = d .f4; f5 = v - v % 4 + v % 2; held = d .held; codes = d .codes }
+changes (heldF4 v) d = record { kind = d .kind; phase = d .phase; copying = d .copying; f2 = d .f2; f4 = d .f4; f5 = d .f5; held = byte.Byte v; codes = d .codes }
 changes (tookF4 v) d =
-    record { phase = cond (asksNormal v && isStandby (d .phase)) Standby Sleep; copying = d .copying; f2 = d .f2; f4 = v; f5 = d .f5; held = byte.Nothing; codes = codesBy v (d .f2) }
+    let p = cond (asksNormal v && isStandby (d .phase)) Standby Sleep in
+    record { kind = d .kind; phase = p; copying = d .copying; f2 = d .f2; f4 = v; f5 = d .f5; held = byte.Nothing; codes = codesBy (d .kind) v (d .f2) }
 
 -- a conversion begins: normal in standby, and in sleep as F4 asks; the copying of the calibration starts
 abbrev pub begins : Device → Device
 begins d = record {
+  kind = d .kind;
   phase = cond (isStandby (d .phase) || asksNormal (d .f4)) Normal Forced;
   copying = true;
   f2 = d .f2;
@@ -81,6 +85,7 @@ begins d = record {
 -- forced goes to sleep with F4's mode bits cleared, normal to standby; what was held is held no more
 abbrev pub finishes : Device → Device
 finishes d = let forced = isForced (d .phase) in record {
+  kind = d .kind;
   phase = cond forced Sleep Standby;
   copying = d .copying;
   f2 = d .f2;
@@ -90,11 +95,11 @@ finishes d = let forced = isForced (d .phase) in record {
   codes = d .codes;
 }
 
-abbrev pub deviceIn : List Happening → Device
-deviceIn [] = freshly
+abbrev pub deviceIn : {kind : Kind} → List (Happening kind) → Device
+deviceIn {kind} [] = freshly kind
 deviceIn (began ∷ h) = begins (deviceIn h)
 deviceIn (finished t p u ∷ h) = finishes (deviceIn h)
-deviceIn (lost ∷ h) = freshly
+deviceIn {kind} (lost ∷ h) = freshly kind
 deviceIn (opened a ∷ h) = deviceIn h
 deviceIn (gave v ∷ h) = deviceIn h
 deviceIn (closed ∷ h) = deviceIn h

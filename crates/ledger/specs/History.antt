@@ -6,6 +6,8 @@ use mathlib.Core.List.{List, [], _∷_}
 use lib.Dec.{eqb}
 use lib.ListN.{length}
 use Rattle.paper.specs.Registers as reg
+use Rattle.kinds.specs.declared.Kind.{Kind}
+use Rattle.kinds.specs.Chips.{facts}
 use Rattle.machine.specs.declared.Codes.{Codes}
 use Rattle.ledger.specs.Happening.{Happening, began, finished, lost, opened, gave, closed, changed}
 use Rattle.ledger.specs.Device.{zeroCodes, deviceIn}
@@ -13,7 +15,7 @@ use Rattle.ledger.specs.Bytes.{dataBytes}
 
 -- ---- conversions are numbered from 1 in order of beginning
 
-abbrev pub begunIn : List Happening → ℕ
+abbrev pub begunIn : {kind : Kind} → List (Happening kind) → ℕ
 begunIn [] = 0
 begunIn (began ∷ h) = suc (begunIn h)
 begunIn (finished t p r ∷ h) = begunIn h
@@ -24,7 +26,7 @@ begunIn (closed ∷ h) = begunIn h
 begunIn (changed x ∷ h) = begunIn h
 
 -- the codes that the last one began with: those latched then
-abbrev pub codesIn : List Happening → Codes
+abbrev pub codesIn : {kind : Kind} → List (Happening kind) → Codes
 codesIn [] = zeroCodes
 codesIn (began ∷ h) = deviceIn h .codes
 codesIn (finished t p r ∷ h) = codesIn h
@@ -36,7 +38,7 @@ codesIn (changed x ∷ h) = codesIn h
 
 -- ---- the burst that is open at the end
 
-abbrev pub openIn : List Happening → Bool
+abbrev pub openIn : {kind : Kind} → List (Happening kind) → Bool
 openIn [] = false
 openIn (began ∷ h) = openIn h
 openIn (finished t p r ∷ h) = openIn h
@@ -47,7 +49,7 @@ openIn (closed ∷ h) = false
 openIn (changed x ∷ h) = openIn h
 
 -- the address that it was opened at
-abbrev pub openedAt : List Happening → ℕ
+abbrev pub openedAt : {kind : Kind} → List (Happening kind) → ℕ
 openedAt [] = 0
 openedAt (began ∷ h) = openedAt h
 openedAt (finished t p r ∷ h) = openedAt h
@@ -58,7 +60,7 @@ openedAt (closed ∷ h) = 0
 openedAt (changed x ∷ h) = openedAt h
 
 -- the registers that it has given, address and value, the latest first: the first at the address that was asked for, each later one at the next
-abbrev pub givenIn : List Happening → List (ℕ × ℕ)
+abbrev pub givenIn : {kind : Kind} → List (Happening kind) → List (ℕ × ℕ)
 givenIn [] = []
 givenIn (began ∷ h) = givenIn h
 givenIn (finished t p r ∷ h) = givenIn h
@@ -79,15 +81,15 @@ eachBelow zero f = true
 eachBelow (suc n) f = f n && eachBelow n f
 
 -- the data byte i was given, counted from 0 at F7
-abbrev pub gaveData : List Happening → ℕ → Bool
+abbrev pub gaveData : {kind : Kind} → List (Happening kind) → ℕ → Bool
 gaveData h i = hasAddress (reg.firstData + i) (givenIn h)
 
--- whole: all of F7 to FE were given since it was opened
-unfoldable pub wholeIn : List Happening → Bool
-wholeIn h = eachBelow reg.dataLength (gaveData h)
+-- whole: all of the part's data bytes, from F7 on, were given since it was opened
+unfoldable pub wholeIn : {kind : Kind} → List (Happening kind) → Bool
+wholeIn {kind} h = eachBelow (facts kind .bytes) (gaveData h)
 
 -- a conversion has finished since it was opened, and waits
-abbrev pub waitsIn : List Happening → Bool
+abbrev pub waitsIn : {kind : Kind} → List (Happening kind) → Bool
 waitsIn [] = false
 waitsIn (began ∷ h) = waitsIn h
 waitsIn (finished t p r ∷ h) = openIn h
@@ -105,23 +107,23 @@ pub record Measurement : Type 0 where
   pub codes : Codes
   pub bytes : List ℕ
 
--- number 0 and codes 0 mean none, with the fresh bytes
-abbrev pub noMeasurement : Measurement
-noMeasurement = record { number = 0; codes = zeroCodes; bytes = reg.freshBytes }
+-- number 0 and codes 0 mean none, with the part's fresh bytes
+abbrev pub noMeasurement : Kind → Measurement
+noMeasurement kind = record { number = 0; codes = zeroCodes; bytes = facts kind .fresh }
 
 -- the last conversion that finished after the last reset or power event
-abbrev pub lastFinished : List Happening → Measurement
-lastFinished [] = noMeasurement
+abbrev pub lastFinished : {kind : Kind} → List (Happening kind) → Measurement
+lastFinished {kind} [] = noMeasurement kind
 lastFinished (began ∷ h) = lastFinished h
-lastFinished (finished t p r ∷ h) = record { number = begunIn h; codes = codesIn h; bytes = dataBytes (codesIn h) t p r }
-lastFinished (lost ∷ h) = noMeasurement
+lastFinished {kind} (finished t p r ∷ h) = record { number = begunIn h; codes = codesIn h; bytes = dataBytes kind (codesIn h) t p r }
+lastFinished {kind} (lost ∷ h) = noMeasurement kind
 lastFinished (opened a ∷ h) = lastFinished h
 lastFinished (gave v ∷ h) = lastFinished h
 lastFinished (closed ∷ h) = lastFinished h
 lastFinished (changed x ∷ h) = lastFinished h
 
 -- the history before a burst was last opened
-abbrev pub beforeOpened : List Happening → List Happening
+abbrev pub beforeOpened : {kind : Kind} → List (Happening kind) → List (Happening kind)
 beforeOpened [] = []
 beforeOpened (began ∷ h) = beforeOpened h
 beforeOpened (finished t p r ∷ h) = beforeOpened h
@@ -132,7 +134,7 @@ beforeOpened (closed ∷ h) = beforeOpened h
 beforeOpened (changed x ∷ h) = beforeOpened h
 
 -- what the open burst shows: the last that finished before it was opened
-abbrev pub shownBy : List Happening → Measurement
+abbrev pub shownBy : {kind : Kind} → List (Happening kind) → Measurement
 shownBy h = lastFinished (beforeOpened h)
 
 -- ---- where a conversion is
@@ -164,7 +166,7 @@ loses waiting = gone
 loses shown = gone
 loses gone = gone
 
-abbrev pub whereIs : List Happening → ℕ → Where
+abbrev pub whereIs : {kind : Kind} → List (Happening kind) → ℕ → Where
 whereIs [] k = unbegun
 whereIs (began ∷ h) k = cond (eqb k (suc (begunIn h))) running (whereIs h k)
 whereIs (finished t p r ∷ h) k = finishes (openIn h) (whereIs h k)
@@ -209,7 +211,7 @@ isPresent w = isRunning w || (isWaiting w || isShown w)
 -- ---- the four places of the ledger
 
 -- a reset or power event
-abbrev pub isLoss : Happening → Bool
+abbrev pub isLoss : {kind : Kind} → Happening kind → Bool
 isLoss (began) = false
 isLoss (finished t p r) = false
 isLoss lost = true
@@ -218,7 +220,7 @@ isLoss (gave v) = false
 isLoss closed = false
 isLoss (changed x) = false
 
-abbrev pub isClose : Happening → Bool
+abbrev pub isClose : {kind : Kind} → Happening kind → Bool
 isClose (began) = false
 isClose (finished t p r) = false
 isClose lost = false
@@ -228,16 +230,16 @@ isClose closed = true
 isClose (changed x) = false
 
 -- a closed burst, if it was whole (g), shows one at w
-abbrev pub delivers : Happening → Bool → Where → Bool
+abbrev pub delivers : {kind : Kind} → Happening kind → Bool → Where → Bool
 delivers x g w = isClose x && (g && isShown w)
 
 -- a reset or power event finds one at w running, waiting or shown
-abbrev pub finds : Happening → Where → Bool
+abbrev pub finds : {kind : Kind} → Happening kind → Where → Bool
 finds x w = isLoss x && isPresent w
 
 -- A later finished one takes the place of one at w: at a finish the waiting one's, and the shown one's unless a burst is open (o); at a close the shown
 -- one's if one waits (u).
-abbrev pub replaces : Happening → Bool → Bool → Where → Bool
+abbrev pub replaces : {kind : Kind} → Happening kind → Bool → Bool → Where → Bool
 replaces (began) o u w = false
 replaces (finished t p r) o u w = isWaiting w || (isShown w && not o)
 replaces lost o u w = false
@@ -247,29 +249,29 @@ replaces closed o u w = isShown w && u
 replaces (changed x) o u w = false
 
 -- at some moment the test holds of what happened then, of the history before it, and of k
-abbrev pub once : (Happening → List Happening → ℕ → Bool) → List Happening → ℕ → Bool
+abbrev pub once : {kind : Kind} → (Happening kind → List (Happening kind) → ℕ → Bool) → List (Happening kind) → ℕ → Bool
 once test [] k = false
 once test (x ∷ h) k = once test h k || test x h k
 
 -- Delivered: some whole closed burst showed it.
-abbrev pub delivered : List Happening → ℕ → Bool
+abbrev pub delivered : {kind : Kind} → List (Happening kind) → ℕ → Bool
 delivered = once (λ x h k. delivers x (wholeIn h) (whereIs h k))
 
 -- Abandoned: not delivered before a reset or power event found it running, waiting or shown.
-abbrev pub abandoned : List Happening → ℕ → Bool
+abbrev pub abandoned : {kind : Kind} → List (Happening kind) → ℕ → Bool
 abandoned = once (λ x h k. finds x (whereIs h k) && not (delivered h k))
 
 -- Overwritten: a later finished one replaced it while waiting or shown, undelivered.
-abbrev pub overwritten : List Happening → ℕ → Bool
+abbrev pub overwritten : {kind : Kind} → List (Happening kind) → ℕ → Bool
 overwritten = once (λ x h k. replaces x (openIn h) (waitsIn h) (whereIs h k) && not (delivered (x ∷ h) k))
 
 -- a reset or power event came after its beginning
-abbrev pub lostSince : List Happening → ℕ → Bool
+abbrev pub lostSince : {kind : Kind} → List (Happening kind) → ℕ → Bool
 lostSince = once (λ x h k. isLoss x && isBegun (whereIs h k))
 
 -- Standing: begun and not finished since, or finished and at the history's end waiting or shown, with no whole close of it and no reset or power event
 -- after its beginning.
-abbrev pub standing : List Happening → ℕ → Bool
+abbrev pub standing : {kind : Kind} → List (Happening kind) → ℕ → Bool
 standing h k = isPresent (whereIs h k) && (not (delivered h k) && not (lostSince h k))
 
 -- ---- counting
