@@ -1,6 +1,7 @@
 // The three events of a burst: open, byte and close.
 ghost use mathlib.Core.Path.{_≡_};
-ghost use lib.ListN.{length};
+ghost use Prim.Native.Nat.{_≤_};
+ghost use lib.ListN.{length, take};
 ghost use Rattle.paper.specs.Registers as reg;
 ghost use Rattle.machine.specs.Events as ev;
 use machine::Burst;
@@ -34,7 +35,7 @@ pub fn byte(m: Machine) -> Outcome
 }
 
 // The open burst is closed, by the length of the buffer that is lent.
-// A whole one hands back the eight bytes that stand in that buffer afterwards.
+// A whole one hands back the bytes that stand in that buffer afterwards.
 pub fn close_by_length(m: Machine, length: usize) -> Outcome
     ensures { λ r. ⌜ r ≡ ev.closing m length ⌝ }
 {
@@ -42,17 +43,20 @@ pub fn close_by_length(m: Machine, length: usize) -> Outcome
     if !machine_state::is_open(burst) {
         return answer(paper::WRONG_PHASE, m);
     }
-    if length != paper::DATA {
+    let device = m.device;
+    let kind = device.kind;
+    let chip = kinds::facts(kind);
+    if length != chip.bytes {
         return answer(paper::WRONG_LENGTH, m);
     }
-    if reading::is_whole(burst) {
+    if reading::is_whole(kind, burst) {
         return reading::close_whole(m);
     }
     answer(paper::DONE, reading::end(m))
 }
 
 // The open burst is closed.
-// A whole one writes the eight shown bytes to the lent buffer.
+// A whole one writes the shown bytes to the lent buffer, as many as the part has.
 pub fn close(m: Machine, lent: &mut [u8]) -> Outcome
     ensures { λ r. ⌜ (r, now (lent .exit)) ≡ ev.closed m (now (lent .entry)) ⌝ }
 {
@@ -65,13 +69,13 @@ pub fn close(m: Machine, lent: &mut [u8]) -> Outcome
     closing
 }
 
-// The eight bytes are laid over a buffer of eight.
+// The bytes are laid over a buffer of eight or fewer.
 fn lay_over(lent: &mut [u8], bytes: [u8; 8])
-    requires { ⌜ length (now lent) ≡ reg.dataLength ⌝ }
-    ensures { λ _. ⌜ now (lent .exit) ≡ bytes ⌝ }
+    requires { ⌜ length (now lent) ≤ reg.dataLength ⌝ }
+    ensures { λ _. ⌜ now (lent .exit) ≡ take (length (now (lent .entry))) bytes ⌝ }
 {
     let mut i: usize = 0;
-    while i < paper::DATA {
+    while i < lent.len() {
         lent[i] = bytes[i];
         i += 1;
     }

@@ -2,6 +2,7 @@
 ghost use mathlib.Core.Path.{_≡_};
 ghost use Rattle.machine.specs.Events as ev;
 ghost use Rattle.machine.specs.Fields as fields;
+use kinds::Kind;
 use machine::Burst;
 use machine::Machine;
 use machine::Outcome;
@@ -47,14 +48,15 @@ pub fn give(burst: Burst, m: Machine) -> Outcome
     }
 }
 
-// Whether all of F7 to FE were given.
-pub fn is_whole(b: Burst) -> bool
-    ensures { λ r. ⌜ r ≡ ev.isWhole b ⌝ }
+// Whether all of F7 to the part's last data address were given.
+pub fn is_whole(kind: Kind, b: Burst) -> bool
+    ensures { λ r. ⌜ r ≡ ev.isWhole kind b ⌝ }
 {
+    let chip = kinds::facts(kind);
     match b {
         Burst::Closed => false,
         Burst::Open(first, next) => (first <= paper::FIRST_DATA as u16)
-            & ((paper::LAST_DATA as u16) < next),
+            & ((chip.last as u16) < next),
     }
 }
 

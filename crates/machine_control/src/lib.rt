@@ -40,14 +40,14 @@ pub fn enter(phase: Phase, d: Device) -> Device
     machine_state::with_phase(phase, e)
 }
 
-// The oversampling codes of F4, humidity's from F2.
+// The oversampling codes of F4, humidity's from F2 where the part has it.
 fn latch(d: Device, f4: u8) -> Codes
     ensures { λ r. ⌜ r ≡ control.latched d f4 ⌝ }
 {
     Codes {
         temperature: f4 / 32,
         pressure: f4 / 4 % 8,
-        humidity: d.f2,
+        humidity: machine_state::f2_of(d),
     }
 }
 

@@ -60,8 +60,10 @@ pub fn show_waiting(m: Machine) -> Machine
 {
     let waiting = m.waiting;
     if is_there(waiting) {
+        let device = m.device;
+        let kind = device.kind;
         let mut n = show(waiting, m);
-        n.waiting = machine_state::no_conversion();
+        n.waiting = machine_state::no_conversion(kind);
         n
     } else {
         m

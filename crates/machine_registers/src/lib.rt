@@ -28,7 +28,10 @@ fn data_at(address: u8, m: Machine) -> u8
     if address < paper::FIRST_DATA {
         return 0;
     }
-    if paper::LAST_DATA < address {
+    let device = m.device;
+    let kind = device.kind;
+    let chip = kinds::facts(kind);
+    if chip.last < address {
         return 0;
     }
     let shown = m.shown;
@@ -42,10 +45,12 @@ pub fn register(address: u8, m: Machine) -> u8
 {
     let device = m.device;
     if address == paper::CHIP_ID {
-        return paper::BME280;
+        let kind = device.kind;
+        let chip = kinds::facts(kind);
+        return chip.id;
     }
     if address == paper::CTRL_HUM {
-        return device.f2;
+        return machine_state::f2_of(device);
     }
     if address == paper::STATUS {
         return status(device);

@@ -2,6 +2,7 @@
 ghost use mathlib.Core.Path.{_≡_};
 ghost use Rattle.machine.specs.State as state;
 ghost use Rattle.machine.specs.Events as ev;
+use kinds::Kind;
 use machine::Burst;
 use machine::Device;
 use machine::Held;
@@ -11,16 +12,16 @@ use machine::Outcome;
 use machine::Phase;
 use machine_state::answer;
 
-// The fresh state.
-pub fn fresh() -> Machine
-    ensures { λ r. ⌜ r ≡ state.fresh ⌝ }
+// The fresh state of a kind of part.
+pub fn fresh(kind: Kind) -> Machine
+    ensures { λ r. ⌜ r ≡ state.fresh kind ⌝ }
 {
-    fresh_after(0)
+    fresh_after(kind, 0)
 }
 
-// The fresh state after this many conversions, all delivered.
-pub fn fresh_after(conversions: u32) -> Machine
-    ensures { λ r. ⌜ r ≡ state.freshAfter conversions ⌝ }
+// The fresh state of a kind of part after this many conversions, all delivered.
+pub fn fresh_after(kind: Kind, conversions: u32) -> Machine
+    ensures { λ r. ⌜ r ≡ state.freshAfter kind conversions ⌝ }
 {
     let ledger = Ledger {
         begun: conversions,
@@ -29,16 +30,17 @@ pub fn fresh_after(conversions: u32) -> Machine
         abandoned: 0,
         standing: 0,
     };
-    fresh_with(ledger)
+    fresh_with(kind, ledger)
 }
 
-// All fresh but the ledger.
-fn fresh_with(l: Ledger) -> Machine
-    ensures { λ r. ⌜ r ≡ state.freshWith l ⌝ }
+// All fresh but the kind and the ledger.
+fn fresh_with(kind: Kind, l: Ledger) -> Machine
+    ensures { λ r. ⌜ r ≡ state.freshWith kind l ⌝ }
 {
-    let none = machine_state::no_conversion();
+    let none = machine_state::no_conversion(kind);
     let codes = none.codes;
     let device = Device {
+        kind: kind,
         phase: Phase::Sleep,
         copying: true,
         f2: 0,
@@ -56,11 +58,13 @@ fn fresh_with(l: Ledger) -> Machine
     }
 }
 
-// All fresh but the ledger, which counts what is abandoned.
+// All fresh but the kind of part and the ledger, which counts what is abandoned.
 pub fn reset(m: Machine) -> Machine
     ensures { λ r. ⌜ r ≡ ev.reset m ⌝ }
 {
-    fresh_with(machine_counts::count_abandoned(m.ledger))
+    let device = m.device;
+    let kind = device.kind;
+    fresh_with(kind, machine_counts::count_abandoned(m.ledger))
 }
 
 // Power is lost and returns: always done.

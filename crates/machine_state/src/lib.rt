@@ -1,8 +1,10 @@
 // What is asked of a state, one field of an enum type changed, no conversion, and an event's answer.
 ghost use mathlib.Core.Path.{_≡_};
+ghost use Rattle.machine.specs.Control as control;
 ghost use Rattle.machine.specs.Events as ev;
 ghost use Rattle.machine.specs.Fields as fields;
 ghost use Rattle.machine.specs.State as state;
+use kinds::Kind;
 use machine::Burst;
 use machine::Codes;
 use machine::Conversion;
@@ -57,8 +59,10 @@ pub fn is_open(b: Burst) -> bool
 fn device_with(phase: Phase, held: Held, d: Device) -> Device
     ensures { λ r. ⌜ r ≡ fields.withPhase phase (fields.withHeld held d) ⌝ }
 {
+    let kind = d.kind;
     let codes = d.codes;
     Device {
+        kind: kind,
         phase: phase,
         copying: d.copying,
         f2: d.f2,
@@ -85,12 +89,22 @@ pub fn with_held(held: Held, d: Device) -> Device
     device_with(phase, held, d)
 }
 
-// No conversion.
-pub fn no_conversion() -> Conversion
-    ensures { λ r. ⌜ r ≡ state.noConversion ⌝ }
+// F2, where the part has it, and else 0.
+pub fn f2_of(d: Device) -> u8
+    ensures { λ r. ⌜ r ≡ control.f2Of d ⌝ }
 {
+    let kind = d.kind;
+    let chip = kinds::facts(kind);
+    if chip.humidity { d.f2 } else { 0 }
+}
+
+// No conversion of a kind of part.
+pub fn no_conversion(kind: Kind) -> Conversion
+    ensures { λ r. ⌜ r ≡ state.noConversion kind ⌝ }
+{
+    let chip = kinds::facts(kind);
     let codes = NO_CODES;
-    let bytes = paper::FRESH_BYTES;
+    let bytes = chip.fresh;
     Conversion {
         number: 0,
         codes: codes,

@@ -15,7 +15,9 @@ pub fn write(m: Machine, register: u8, value: u8) -> Outcome
     if machine_state::is_open(burst) {
         return answer(paper::BURST_IS_OPEN, m);
     }
-    if !paper::is_writable(register) {
+    let device = m.device;
+    let kind = device.kind;
+    if !kinds::is_writable(kind, register) {
         return answer(paper::ADDRESS_NOT_ALLOWED, m);
     }
     if register == paper::RESET {

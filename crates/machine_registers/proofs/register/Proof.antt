@@ -7,7 +7,9 @@ pub register-spec : {M : Type 1} → statement M
 register-spec =
     tie.close
     (tie.spec
-    (λ c. search cases)
+    (λ c κs. tt)
+    (λ c. rw (← c .facts .ensures) (search cases))
+    (λ c κs. tt)
     (λ c. search cases)
     (λ c κs. tt)
     (λ c. search cases)
