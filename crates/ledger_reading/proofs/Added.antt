@@ -9,6 +9,7 @@ use borrow.Author.Tests.{eqb-true, ltb-true}
 use Rattle.laws.specs.Choices.{pick}
 use Rattle.laws.specs.Tests.{both}
 use Rattle.paper.specs.Numbers.{done}
+use Rattle.kinds.specs.declared.Kind.{Kind}
 use Rattle.machine.specs.declared.Held.{Held}
 use Rattle.machine.specs.declared.Held.the-variants as held
 use Rattle.machine.specs.declared.Machine.{Machine}
@@ -30,8 +31,8 @@ passes : (b : Bool) (n k : ℕ) → 0 < n → cond (not b) n k ≡ 0 → (b ≡ 
 passes true n k p e = (refl, e)
 passes false n k p e = absurd (omega arith)
 
-module _ (h : List Happening) (s : Sound h) where
-  abbrev Then : List Happening → Type 0
+module _ {kind : Kind} (h : List (Happening kind)) (s : Sound h) where
+  abbrev Then : List (Happening kind) → Type 0
   Then l = Sound (l ++ h)
 
   by-takes : (v : ℕ) → v < 256 → Then (takes h v)
@@ -45,13 +46,13 @@ module _ (h : List Happening) (s : Sound h) where
       pick Then (isConverting (deviceIn h .phase)) (λ _. (b, s)) (λ _. by-takes v b)
 
 -- a conversion finishes, and then what is held takes effect
-module _ (t p u : ℕ) (h : List Happening) (s : Sound (finished t p u ∷ h)) where
+module _ {kind : Kind} (t p u : ℕ) (h : List (Happening kind)) (s : Sound (finished t p u ∷ h)) where
   by-held : (q : Held) → HeldFits q → Sound ((takesHeld q (finished t p u ∷ h) ++ finished t p u ∷ []) ++ h)
   by-held held.Nothing b = s
   by-held (held.Byte v) b =
-      pick (λ (l : List Happening). Sound ((l ++ finished t p u ∷ []) ++ h)) (beginsBy (deviceIn (finished t p u ∷ h) .phase) v) (λ _. (tt, (b, s))) (λ _. (b, s))
+      pick (λ (l : List (Happening kind)). Sound ((l ++ finished t p u ∷ []) ++ h)) (beginsBy (deviceIn (finished t p u ∷ h) .phase) v) (λ _. (tt, (b, s))) (λ _. (b, s))
 
-good-finish : (t p u : ℕ) (h : List Happening) → numberIn h (Finish t p u) ≡ 0 → Good (finished t p u) h
+good-finish : {kind : Kind} (t p u : ℕ) (h : List (Happening kind)) → numberIn h (Finish t p u) ≡ 0 → Good (finished t p u) h
 good-finish t p u h e =
     let run = passes (mayFinishIn h) 6 _ (omega arith) e in
     let fit = passes (ltb t 0x100000 && (ltb p 0x100000 && ltb u 0x10000)) 7 _ (omega arith) (run .1) in
@@ -62,7 +63,7 @@ good-finish t p u h e =
     )
 
 -- what a done event adds
-sound-adds : (h : List Happening) → Sound h → (e : Event) → WritesBytes (e ∷ []) → numberIn h e ≡ 0 → (v : ℕ) → Sound (adds h e v ++ h)
+sound-adds : {kind : Kind} (h : List (Happening kind)) → Sound h → (e : Event) → WritesBytes (e ∷ []) → numberIn h e ≡ 0 → (v : ℕ) → Sound (adds h e v ++ h)
 sound-adds h s Power b d v = (tt, s)
 sound-adds h s Copied b d v = (tt, s)
 sound-adds h s (Write a x) b d v = by-write h s a x (b .0)
@@ -72,9 +73,9 @@ sound-adds h s (Open a) b d v = (tt, s)
 sound-adds h s Byte b d v = (tt, s)
 sound-adds h s (Close n) b d v = (tt, s)
 
-sound-added : (m : Machine) (h : List Happening) → Kept m h → Sound h → (e : Event) → WritesBytes (e ∷ []) → Sound (added (answer m e) h e (byteGiven m .value) ++ h)
-sound-added m h k s e b =
-    pick (λ (l : List Happening). Sound (l ++ h)) (eqb (answer m e) done)
+sound-added : {kind : Kind} (m : Machine) (h : List (Happening kind)) → Kept m h → Sound h → (e : Event) → WritesBytes (e ∷ []) → Sound (added (answer m e) h e (byteGiven m .value) ++ h)
+sound-added {kind} m h k s e b =
+    pick (λ (l : List (Happening kind)). Sound (l ++ h)) (eqb (answer m e) done)
     (λ d. sound-adds h s e b (sym (number-is m h k e) ∙ eqb-true (answer m e) done d) (byteGiven m .value))
     (λ _. s)
 
@@ -89,11 +90,11 @@ split (Open a) es b = (tt, b)
 split Byte es b = (tt, b)
 split (Close n) es b = (tt, b)
 
-sound-after : (m : Machine) (h : List Happening) → Kept m h → Sound h → (es : List Event) → WritesBytes es → Sound (addedAfter m h es)
+sound-after : {kind : Kind} (m : Machine) (h : List (Happening kind)) → Kept m h → Sound h → (es : List Event) → WritesBytes es → Sound (addedAfter m h es)
 sound-after m h k s [] b = s
 sound-after m h k s (e ∷ es) b =
     let c = split e es b in
     sound-after (next m e) (added (answer m e) h e (byteGiven m .value) ++ h) (kept-after m h (e ∷ []) k) (sound-added m h k s e (c .0)) es (c .1)
 
-pub sound : (es : List Event) → WritesBytes es → Sound (history es)
-sound es b = sound-after _ [] (kept []) tt es b
+pub sound : (kind : Kind) (es : List Event) → WritesBytes es → Sound (history kind es)
+sound kind es b = sound-after _ [] (kept kind []) tt es b
