@@ -1,10 +1,12 @@
-/* Onegrish for C and firmware: what a BME280's bytes say, exactly, and which of them say nothing.
+/* Onegrish for C and firmware: what a BME280's or a BMP280's bytes say, exactly, and which of them say nothing.
  *
  * The library is proved: each function below does what its comment says, for all input that fits the types. It is built
  * for x86-64 Linux alone. Link libonegrish.a (`rt staticlib onegrish`), for the two functions over kept words
  * libonegrish_words.a (`rt staticlib onegrish_words`), for a day in one call libonegrish_day.a (`rt staticlib onegrish_day`),
- * for the three on map points and rooms libonegrish_rooms.a (`rt staticlib onegrish_rooms`), and for the four on visit
- * records libonegrish_visit.a (`rt staticlib onegrish_visit`).
+ * for a BMP280's reading libonegrish_bmp280.a (`rt staticlib onegrish_bmp280`), for the three on map points and rooms
+ * libonegrish_rooms.a (`rt staticlib onegrish_rooms`), and for the four on visit records libonegrish_visit.a
+ * (`rt staticlib onegrish_visit`). Functions over a reading's bytes are for a BME280 where nothing else is said. Waits, polls, bus
+ * bytes, two channels compared and visit records are the same for a BMP280; its wait is the one with the third code 0.
  *
  * Every function ends, allocates nothing, keeps no state and calls nothing. Any number of threads may call it.
  *
@@ -36,8 +38,8 @@ uint32_t onegrish_version(void);
 /* ---- the numbers that are answered */
 
 #define ONEGRISH_DONE 0                 /* done */
-#define ONEGRISH_WRONG_LENGTH 2         /* not 26 and 7 calibration bytes, 8 data bytes or 18 words; a day's lists of unequal
-                                           length; a record over 65,535 bytes */
+#define ONEGRISH_WRONG_LENGTH 2         /* not 26 and 7 calibration bytes, 8 data bytes or 18 words; of a BMP280 not 26, 0 and 6
+                                           bytes; a day's lists of unequal length; a record over 65,535 bytes */
 #define ONEGRISH_ADDRESS_NOT_ALLOWED 4  /* a device's address or a register */
 #define ONEGRISH_OUT_OF_RANGE 7         /* an oversampling code above 7, at its place in a day too; a kept word that its type can't
                                            hold */
@@ -53,7 +55,7 @@ uint32_t onegrish_version(void);
 
 /* ---- the numbers that stand in a channel's place, in `numbers`, in a day's answers and in a visit's steps; no function answers them */
 
-#define ONEGRISH_SKIPPED 10             /* the channel's code is 0 */
+#define ONEGRISH_SKIPPED 10             /* the channel's code is 0; a BMP280's humidity, always */
 #define ONEGRISH_NO_TEMPERATURE 11      /* there is no temperature to compensate with */
 #define ONEGRISH_LEFT_ITS_TYPE 12       /* a step of the maker's formula left its type */
 #define ONEGRISH_DIVISOR_ZERO 13        /* the pressure's divisor is zero */
@@ -70,6 +72,7 @@ uint32_t onegrish_version(void);
 #define ONEGRISH_BLOCK_ONE 26   /* bytes of calibration block one, registers 0x88 to 0xA1 */
 #define ONEGRISH_BLOCK_TWO 7    /* bytes of calibration block two, registers 0xE1 to 0xE7 */
 #define ONEGRISH_DATA 8         /* data bytes, registers 0xF7 to 0xFE */
+#define ONEGRISH_DATA_BMP280 6  /* data bytes of a BMP280, registers 0xF7 to 0xFC; it has no block two */
 #define ONEGRISH_WORDS 18       /* words of a chip */
 #define ONEGRISH_NUMBERS 3      /* numbers of a reading: temperature, pressure, humidity */
 #define ONEGRISH_VALUES 4       /* values of a reading: temperature, fine temperature, pressure, humidity */
@@ -125,7 +128,8 @@ enum {
 #define ONEGRISH_REGISTER_CTRL_MEAS 0xF4
 #define ONEGRISH_REGISTER_CONFIG 0xF5
 #define ONEGRISH_REGISTER_DATA 0xF7
-#define ONEGRISH_CHIP_ID 0x60       /* what the chip id register gives */
+#define ONEGRISH_CHIP_ID 0x60       /* what a BME280's chip id register gives */
+#define ONEGRISH_CHIP_ID_BMP280 0x58 /* what a BMP280's gives */
 #define ONEGRISH_RESET_WORD 0xB6    /* what the reset register takes */
 #define ONEGRISH_STATUS_RUNNING 8   /* bits of the status register: a conversion runs */
 #define ONEGRISH_STATUS_COPYING 1   /* calibration is being copied: after power or a reset, and at the start of each conversion */
@@ -170,6 +174,19 @@ uint8_t onegrish_words(const uint8_t *one, size_t one_length, const uint8_t *two
 uint8_t onegrish_compensate_words(const int16_t *words, size_t words_length, const uint8_t *bytes, size_t bytes_length,
                                   uint8_t t, uint8_t p, uint8_t h, uint8_t *numbers, size_t numbers_length,
                                   int64_t *values, size_t values_length);
+
+/* ---- a reading of a BMP280: in libonegrish_bmp280.a */
+
+/* Compensates one reading of a BMP280, out of its calibration block, the six data bytes and the oversampling codes with which
+ * that conversion began. There is no block two: two_length is 0, and two may be null. There is no humidity: the third code is
+ * checked and then not used, numbers[2] is always ONEGRISH_SKIPPED, and values[3] stays as it was. Temperature and pressure are
+ * what onegrish_compensate gives with the same block one, the same bytes before its last two and the same codes.
+ *
+ * ONEGRISH_WRONG_LENGTH: not 26, 0 and 6 bytes.  ONEGRISH_OUT_OF_RANGE: a code above 7, the third one too.
+ * ONEGRISH_BUFFER_TOO_SHORT: fewer than 3 numbers or 4 values are lent.  ONEGRISH_DONE: as for onegrish_compensate. */
+uint8_t onegrish_compensate_bmp280(const uint8_t *one, size_t one_length, const uint8_t *two, size_t two_length,
+                                   const uint8_t *bytes, size_t bytes_length, uint8_t t, uint8_t p, uint8_t h,
+                                   uint8_t *numbers, size_t numbers_length, int64_t *values, size_t values_length);
 
 /* ---- a day in one call: in libonegrish_day.a */
 

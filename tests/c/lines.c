@@ -1,7 +1,7 @@
 /* Answers the bench's lines on words, readings, days, map points, rooms, waits, polls and bus bytes through the library for C, so that its
  * answers can be held to the second program's. A reading is asked for twice, from the blocks and with their words kept, and so are two
- * rooms, whole and channel by channel. Lines come well formed, with codes, bytes and tolerances in their types; tests/c/run picks such
- * lines. */
+ * rooms, whole and channel by channel, and a BMP280's reading beside a BME280's with the same block one and bytes. Lines come well formed,
+ * with codes, bytes and tolerances in their types; tests/c/run picks such lines. */
 #include <stdio.h>
 
 #include "onegrish.h"
@@ -93,6 +93,23 @@ static void answer_comp(char **w) {
     r.answer = onegrish_compensate(one, n, two, m, bytes, k, t, p, h, r.numbers, 3, r.values, 4);
     kept = by_words(one, n, two, m, bytes, k, t, p, h);
     if (!are_same(&r, &kept)) printf("with kept words otherwise: ");
+    printf("%u", r.answer);
+    if (r.answer == 0) print_channels(&r);
+    putchar('\n');
+}
+
+/* A BMP280's reading. With any block two and two bytes more, a BME280's has the same temperature and the same pressure. */
+static void answer_bmp(char **w) {
+    static const uint8_t seven[ONEGRISH_BLOCK_TWO] = {0x6A, 0x01, 0x00, 0x13, 0x29, 0x03, 0x1E};
+    uint8_t one[LINE], two[LINE], bytes[LINE + 2];
+    struct reading r = {0, {99, 99, 99}, {-1, -1, -1, -1}}, bme280 = r;
+    size_t n = bytes_of(w[1], one), m = bytes_of(w[2], two), k = bytes_of(w[3], bytes);
+    uint8_t t = (uint8_t)number_of(w[4]), p = (uint8_t)number_of(w[5]), h = (uint8_t)number_of(w[6]);
+    r.answer = onegrish_compensate_bmp280(one, n, two, m, bytes, k, t, p, h, r.numbers, 3, r.values, 4);
+    bytes[k] = 0x6D, bytes[k + 1] = 0x60;
+    bme280.answer = onegrish_compensate(one, n, seven, m ? 0 : 7, bytes, k + 2, t, p, h, bme280.numbers, 3, bme280.values, 4);
+    bme280.numbers[2] = r.answer ? 99 : ONEGRISH_SKIPPED, bme280.values[3] = -1;
+    if (!are_same(&r, &bme280)) printf("a BME280 otherwise: ");
     printf("%u", r.answer);
     if (r.answer == 0) print_channels(&r);
     putchar('\n');
@@ -257,6 +274,7 @@ int main(void) {
             else {
                 if (same(words[0], "cal")) answer_cal(words);
                 else if (same(words[0], "comp")) answer_comp(words);
+                else if (same(words[0], "bmp")) answer_bmp(words);
                 else if (same(words[0], "day")) answer_day(words);
                 else if (same(words[0], "point")) answer_point(words, 0);
                 else if (same(words[0], "cells")) answer_point(words, 1);
