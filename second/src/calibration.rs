@@ -1,6 +1,7 @@
 //! The calibration bytes: block one is 0x88 to 0xA1, block two 0xE1 to 0xE7.
 
 use crate::numbers::Number;
+use crate::part::Part;
 
 pub const BLOCK_ONE: usize = 26;
 pub const BLOCK_TWO: usize = 7;
@@ -31,10 +32,23 @@ fn signed_byte(byte: u8) -> i64 {
     i64::from(i8::from_le_bytes([byte]))
 }
 
-/// Reads both blocks into their words, or gives 2 where a block has a wrong length.
-/// H4 takes the low nibble of 0xE5 and H5 the high one; 0xA0 is unused.
-pub fn read(one: &[u8], two: &[u8]) -> Result<Words, Number> {
-    if one.len() != BLOCK_ONE || two.len() != BLOCK_TWO {
+/// Reads the words of humidity from both blocks.
+/// H4 takes the low nibble of 0xE5 and H5 the high one.
+fn humidity_words(one: &[u8], two: &[u8]) -> [i64; 6] {
+    [
+        i64::from(one[25]),
+        signed_word(two, 0),
+        i64::from(two[2]),
+        signed_byte(two[3]) * 16 + i64::from(two[4] & 0x0F),
+        signed_byte(two[5]) * 16 + i64::from(two[4] >> 4),
+        signed_byte(two[6]),
+    ]
+}
+
+/// Reads a part's two blocks into their words, or gives 2 where a block has a wrong length.
+/// 0xA0 is unused. A BMP280 has no block two, and no words of humidity.
+pub fn read(part: Part, one: &[u8], two: &[u8]) -> Result<Words, Number> {
+    if one.len() != BLOCK_ONE || two.len() != part.block_two() {
         return Err(Number::WrongLength);
     }
     let mut words = Words::default();
@@ -46,14 +60,9 @@ pub fn read(one: &[u8], two: &[u8]) -> Result<Words, Number> {
     for place in 1..9 {
         words.p[place] = signed_word(one, 6 + 2 * place);
     }
-    words.h = [
-        i64::from(one[25]),
-        signed_word(two, 0),
-        i64::from(two[2]),
-        signed_byte(two[3]) * 16 + i64::from(two[4] & 0x0F),
-        signed_byte(two[5]) * 16 + i64::from(two[4] >> 4),
-        signed_byte(two[6]),
-    ];
+    if part == Part::Bme280 {
+        words.h = humidity_words(one, two);
+    }
     Ok(words)
 }
 

@@ -1,10 +1,12 @@
 //! The commands of the bench's lines, read from a line's bytes.
 
 use crate::compensation::Input;
-use crate::visits::words::steps;
+use crate::part::Part;
+use crate::two_words::{read_fresh, read_i2c, read_spi, read_visit, read_wait};
 use crate::visits::Step;
 use crate::words::{
-    buffer_length, decimal, hex_bytes, split, three_decimals, two_digits, Reason, LONGEST_LINE,
+    buffer_length, check_count, decimal, hex_bytes, split, three_decimals, two_digits, Reason,
+    LONGEST_LINE,
 };
 
 /// One command with its words read.
@@ -14,7 +16,10 @@ pub enum Command {
         one: Vec<u8>,
         two: Vec<u8>,
     },
-    Compensation(Input),
+    Compensation {
+        part: Part,
+        input: Input,
+    },
     Point(Input),
     Cells(Input),
     Rooms {
@@ -68,7 +73,10 @@ pub enum Command {
         length: usize,
         steps: Vec<Step>,
     },
-    Fresh(u64),
+    Fresh {
+        part: Part,
+        begun: u64,
+    },
     Power,
     Copied,
     Wake,
@@ -81,122 +89,6 @@ pub enum Command {
     Byte,
     Close(usize),
     Ledger,
-}
-
-/// Checks that a line has as many words as its command takes.
-/// The command's own word or words are counted in.
-fn check_count(words: &[&[u8]], count: usize) -> Result<(), Reason> {
-    if words.len() == count {
-        Ok(())
-    } else {
-        Err(Reason::WrongNumberOfWords)
-    }
-}
-
-/// Gives the second word of a command that has one in its name.
-/// A missing one is a wrong number of words.
-fn second_word<'a>(words: &[&'a [u8]]) -> Result<&'a [u8], Reason> {
-    words.get(1).copied().ok_or(Reason::WrongNumberOfWords)
-}
-
-/// Reads a waiting command.
-/// Its second word is max or typ.
-fn read_wait(words: &[&[u8]]) -> Result<Command, Reason> {
-    let command = match second_word(words)? {
-        b"max" => Command::WaitMaximum,
-        b"typ" => Command::WaitTypical,
-        _ => return Err(Reason::UnknownWord),
-    };
-    check_count(words, 5)?;
-    Ok(command(three_decimals(&words[2..])?))
-}
-
-/// Reads an I2C command.
-/// Its second word is write, decode or read.
-fn read_i2c(words: &[&[u8]]) -> Result<Command, Reason> {
-    match second_word(words)? {
-        b"write" => {
-            check_count(words, 5)?;
-            Ok(Command::I2cWrite {
-                address: two_digits(words[2])?,
-                pairs: hex_bytes(words[3])?,
-                length: buffer_length(words[4])?,
-            })
-        }
-        b"decode" => {
-            check_count(words, 4)?;
-            Ok(Command::I2cDecode {
-                bytes: hex_bytes(words[2])?,
-                length: buffer_length(words[3])?,
-            })
-        }
-        b"read" => {
-            check_count(words, 5)?;
-            Ok(Command::I2cRead {
-                address: two_digits(words[2])?,
-                register: two_digits(words[3])?,
-                length: buffer_length(words[4])?,
-            })
-        }
-        _ => Err(Reason::UnknownWord),
-    }
-}
-
-/// Reads an SPI command.
-/// Its second word is write, decode or read.
-fn read_spi(words: &[&[u8]]) -> Result<Command, Reason> {
-    let name = second_word(words)?;
-    if ![&b"write"[..], b"decode", b"read"].contains(&name) {
-        return Err(Reason::UnknownWord);
-    }
-    check_count(words, 4)?;
-    if name == b"read" {
-        return Ok(Command::SpiRead {
-            register: two_digits(words[2])?,
-            length: buffer_length(words[3])?,
-        });
-    }
-    let bytes = hex_bytes(words[2])?;
-    let length = buffer_length(words[3])?;
-    Ok(match name {
-        b"write" => Command::SpiWrite {
-            pairs: bytes,
-            length,
-        },
-        _ => Command::SpiDecode { bytes, length },
-    })
-}
-
-/// Reads a command of visit records: read takes a record and a length, write a length and any number of steps.
-/// All words are looked at from left to right.
-fn read_visit(words: &[&[u8]]) -> Result<Command, Reason> {
-    match second_word(words)? {
-        b"read" => {
-            check_count(words, 4)?;
-            Ok(Command::VisitRead {
-                record: hex_bytes(words[2])?,
-                length: buffer_length(words[3])?,
-            })
-        }
-        b"write" => {
-            let length = words.get(2).ok_or(Reason::WrongNumberOfWords)?;
-            Ok(Command::VisitWrite {
-                length: buffer_length(length)?,
-                steps: steps(words[3..].iter().copied())?,
-            })
-        }
-        _ => Err(Reason::UnknownWord),
-    }
-}
-
-/// Reads a fresh command.
-/// It takes one word after it or none.
-fn read_fresh(words: &[&[u8]]) -> Result<Command, Reason> {
-    match words {
-        [_] => Ok(Command::Fresh(0)),
-        [_, begun] => Ok(Command::Fresh(decimal(begun)?)),
-        _ => Err(Reason::WrongNumberOfWords),
-    }
 }
 
 /// Reads a command of a single word.
@@ -217,11 +109,18 @@ fn read_input(words: &[&[u8]]) -> Result<Input, Reason> {
     })
 }
 
-/// Reads a command of one reading: it is compensated, or made a point or cells.
-/// The command is given by its name.
-fn read_one(words: &[&[u8]], command: fn(Input) -> Command) -> Result<Command, Reason> {
+/// Reads a command of one reading.
+/// There is no other word in it.
+fn read_one(words: &[&[u8]]) -> Result<Input, Reason> {
     check_count(words, 7)?;
-    Ok(command(read_input(&words[1..])?))
+    read_input(&words[1..])
+}
+
+/// Reads the compensation of a part's reading.
+/// The lengths that are right depend on the part; any others are read too.
+fn read_compensation(words: &[&[u8]], part: Part) -> Result<Command, Reason> {
+    let input = read_one(words)?;
+    Ok(Command::Compensation { part, input })
 }
 
 /// Reads the comparison of two rooms.
@@ -279,9 +178,10 @@ pub fn read(line: &[u8]) -> Result<Command, Reason> {
     }
     let words = split(line);
     match words[0] {
-        b"comp" => read_one(&words, Command::Compensation),
-        b"point" => read_one(&words, Command::Point),
-        b"cells" => read_one(&words, Command::Cells),
+        b"comp" => read_compensation(&words, Part::Bme280),
+        b"bmp" => read_compensation(&words, Part::Bmp280),
+        b"point" => Ok(Command::Point(read_one(&words)?)),
+        b"cells" => Ok(Command::Cells(read_one(&words)?)),
         b"rooms" => read_rooms(&words),
         b"wait" => read_wait(&words),
         b"i2c" => read_i2c(&words),

@@ -3,12 +3,13 @@
 use crate::calibration::{self, Words};
 use crate::data::{counts, DATA};
 use crate::numbers::Number;
+use crate::part::Part;
 use crate::steps::Step;
 
 const HIGHEST_PRESSURE: i64 = 4_294_967_295;
 const HIGHEST_HUMIDITY: i64 = 419_430_400;
 
-/// What one reading is worked out from: both blocks, the eight bytes and the three codes.
+/// What one reading is worked out from: both blocks, the data bytes and the three codes.
 /// Lengths and codes may be wrong.
 #[derive(Clone, Debug, PartialEq, Eq)]
 pub struct Input {
@@ -107,14 +108,23 @@ fn channel(
     }
 }
 
-/// Compensates eight bytes and three codes by words that were read before.
-/// Length is checked first (2), then the codes (7).
-pub fn by_words(words: &Words, data: &[u8], codes: [u64; 3]) -> Result<Reading, Number> {
-    let data = <[u8; DATA]>::try_from(data).map_err(|_| Number::WrongLength)?;
+/// Compensates a part's data bytes and three codes by words that were read before.
+/// Length is checked first (2), then the codes (7). A BMP280's humidity is 10, whatever its code is.
+pub fn by_words(
+    part: Part,
+    words: &Words,
+    data: &[u8],
+    codes: [u64; 3],
+) -> Result<Reading, Number> {
+    if data.len() != part.data() {
+        return Err(Number::WrongLength);
+    }
     if codes.iter().any(|code| *code > 7) {
         return Err(Number::OutOfRange);
     }
-    let [t_count, p_count, h_count] = counts(data);
+    let mut eight = [0; DATA];
+    eight[..data.len()].copy_from_slice(data);
+    let [t_count, p_count, h_count] = counts(eight);
     let [t_code, p_code, h_code] = codes;
     let temperature = match t_code {
         0 => Err(Number::Skipped),
@@ -123,13 +133,16 @@ pub fn by_words(words: &Words, data: &[u8], codes: [u64; 3]) -> Result<Reading, 
     Ok(Reading {
         temperature,
         pressure: channel(p_code, &temperature, |fine| pressure(words, fine, p_count)),
-        humidity: channel(h_code, &temperature, |fine| humidity(words, fine, h_count)),
+        humidity: match part {
+            Part::Bme280 => channel(h_code, &temperature, |fine| humidity(words, fine, h_count)),
+            Part::Bmp280 => Err(Number::Skipped),
+        },
     })
 }
 
-/// Compensates one reading of both blocks, the eight bytes and the three codes.
+/// Compensates one reading of a part: both blocks, the data bytes and the three codes.
 /// The blocks' lengths are checked before all else (2).
-pub fn compensate(input: &Input) -> Result<Reading, Number> {
-    let words = calibration::read(&input.one, &input.two)?;
-    by_words(&words, &input.data, input.codes)
+pub fn compensate(part: Part, input: &Input) -> Result<Reading, Number> {
+    let words = calibration::read(part, &input.one, &input.two)?;
+    by_words(part, &words, &input.data, input.codes)
 }

@@ -3,6 +3,7 @@
 //! A moment is a place in the list; looking back from it sees what stands before it.
 
 use crate::data::DATA;
+use crate::part::Part;
 
 /// A conversion: its number, from 1 in order of beginning, and the codes it began with.
 #[derive(Clone, Copy, Debug, Default, PartialEq, Eq)]
@@ -11,7 +12,7 @@ pub struct Conversion {
     pub codes: [u8; 3],
 }
 
-/// A finished conversion with its eight bytes.
+/// A finished conversion with its eight bytes. A BMP280 shows the first six of them.
 #[derive(Clone, Copy, Debug, PartialEq, Eq)]
 pub struct Finished {
     pub conversion: Conversion,
@@ -85,8 +86,8 @@ pub fn running_at(history: &[Happening], moment: usize) -> Option<Conversion> {
 }
 
 /// Says whether the burst that is open at the moment is whole so far.
-/// Whole means that all of 0xF7 to 0xFE were given.
-pub fn whole_at(history: &[Happening], moment: usize) -> bool {
+/// Whole means that all of 0xF7 to 0xFE were given, of a BMP280 0xF7 to 0xFC.
+pub fn whole_at(part: Part, history: &[Happening], moment: usize) -> bool {
     let opening = match opening_at(history, moment) {
         Some(opening) => opening,
         None => return false,
@@ -97,5 +98,5 @@ pub fn whole_at(history: &[Happening], moment: usize) -> bool {
             given[usize::from(address - 0xF7)] = true;
         }
     }
-    given == [true; DATA]
+    given[..part.data()].iter().all(|given| *given)
 }

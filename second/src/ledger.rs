@@ -3,6 +3,7 @@
 use crate::history::{
     opening_at, running_at, shown_at, waiting_at, whole_at, Conversion, Happening,
 };
+use crate::part::Part;
 
 /// The place of one conversion; the last three are standing, and name as what.
 #[derive(Clone, Copy, Debug, PartialEq, Eq)]
@@ -59,10 +60,10 @@ pub struct Delivery {
 
 /// Lists the deliveries: some whole closed burst showed the conversion.
 /// A repeated burst of the same one is no second delivery. Numbers rise along the list.
-pub fn deliveries(history: &[Happening]) -> Vec<Delivery> {
+pub fn deliveries(part: Part, history: &[Happening]) -> Vec<Delivery> {
     let mut list: Vec<Delivery> = Vec::new();
     for (moment, happening) in history.iter().enumerate() {
-        if *happening != Happening::Closed || !whole_at(history, moment) {
+        if *happening != Happening::Closed || !whole_at(part, history, moment) {
             continue;
         }
         let shown = match shown_at(history, moment) {
@@ -108,8 +109,8 @@ fn replaced_at(history: &[Happening], moment: usize) -> Option<Conversion> {
 
 /// Works out the place of every conversion of the history, in no fixed order.
 /// Each sentence is read over the whole history; none is carried on from event to event.
-pub fn places(history: &[Happening]) -> Vec<(u64, Place)> {
-    let deliveries = deliveries(history);
+pub fn places(part: Part, history: &[Happening]) -> Vec<(u64, Place)> {
+    let deliveries = deliveries(part, history);
     let mut list: Vec<(u64, Place)> = deliveries
         .iter()
         .map(|delivery| (delivery.number, Place::Delivered))

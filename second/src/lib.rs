@@ -1,7 +1,8 @@
-//! The second program: the paper on the BME280 put into Rust a second time,
+//! The second program: the paper on the BME280 and the BMP280 put into Rust a second time,
 //! so that two programs written apart can be held against each other.
 
 pub mod answers;
+pub mod bmp;
 pub mod bus;
 pub mod calibration;
 pub mod command;
@@ -17,6 +18,8 @@ pub mod lines;
 pub mod machine;
 pub mod maps;
 pub mod numbers;
+pub mod part;
+pub mod phase;
 pub mod random;
 pub mod record;
 pub mod rooms;
@@ -24,6 +27,7 @@ pub mod sheet;
 pub mod spelling;
 pub mod steps;
 pub mod streams;
+pub mod two_words;
 pub mod values;
 pub mod visits;
 pub mod waiting;

@@ -8,6 +8,7 @@ use crate::compensation::{compensate, Input};
 use crate::day::{self, Outcome};
 use crate::machine::Machine;
 use crate::numbers::Number;
+use crate::part::Part;
 use crate::rooms::{self, Channels};
 use crate::visits;
 use crate::waiting::{poll, wait, MAXIMUM, TYPICAL};
@@ -32,10 +33,10 @@ fn lend<'a, T>(
     write(answer, result, rest).text(" buf=").bytes(&buffer)
 }
 
-/// Gives the three channels of a reading, for the map room.
+/// Gives the three channels of a BME280's reading, for the map room.
 /// A reading refused whole has three too.
 fn channels(input: &Input) -> Channels {
-    rooms::channels(compensate(input))
+    rooms::channels(compensate(Part::Bme280, input))
 }
 
 /// Lends a list of so many answers to a day, and gives the list as it is filled.
@@ -47,11 +48,11 @@ fn day(one: &[u8], two: &[u8], readings: &[u8], length: usize) -> Result<Vec<Out
 }
 
 impl Default for Bench {
-    /// Makes the bench with a fresh machine.
+    /// Makes the bench with a fresh machine, which is a BME280.
     /// Nothing has been read yet.
     fn default() -> Self {
         Bench {
-            machine: Machine::fresh(0),
+            machine: Machine::fresh(Part::Bme280, 0),
         }
     }
 }
@@ -82,9 +83,12 @@ impl Bench {
     fn obey<'a>(&mut self, command: Command, answer: Answer<'a>) -> Answer<'a> {
         match command {
             Command::Calibration { one, two } => {
-                write(answer, calibration::read(&one, &two), answers::calibration)
+                let words = calibration::read(Part::Bme280, &one, &two);
+                write(answer, words, answers::calibration)
             }
-            Command::Compensation(input) => write(answer, compensate(&input), answers::reading),
+            Command::Compensation { part, input } => {
+                write(answer, compensate(part, &input), answers::reading)
+            }
             Command::Point(input) => answers::point(answer, rooms::point(&channels(&input))),
             Command::Cells(input) => answers::cells(answer, rooms::cells(&channels(&input))),
             Command::Rooms {
@@ -150,8 +154,8 @@ impl Bench {
                 lend(answer, length, call, answers::closing)
             }
             Command::Ledger => answers::ledger(answer, self.machine.ledger()),
-            Command::Fresh(begun) => {
-                self.machine = Machine::fresh(begun);
+            Command::Fresh { part, begun } => {
+                self.machine = Machine::fresh(part, begun);
                 write(answer, Ok(()), answers::nothing)
             }
             Command::Power => {

@@ -1,24 +1,15 @@
 //! The register and mode machine: the device's fields, and the events that change them.
 
-use crate::bus::WRITABLE;
 use crate::data::{self, DATA, FRESH_BYTES};
 use crate::history::{Finished, Happening};
 use crate::ledger::Ledger;
 use crate::numbers::Number;
+use crate::part::Part;
+use crate::phase::Phase;
 use crate::record::Record;
 
 pub const MOST_CONVERSIONS: u64 = 4_294_967_295;
 const RESET_VALUE: u8 = 0xB6;
-const CHIP_ID: u8 = 0x60;
-
-/// Where the device is: in sleep, in a forced or a normal conversion, or in standby.
-#[derive(Clone, Copy, Debug, PartialEq, Eq)]
-pub enum Phase {
-    Sleep,
-    Forced,
-    Normal,
-    Standby,
-}
 
 /// What a close says: whole or partial, and which conversion was shown.
 #[derive(Clone, Copy, Debug, Default, PartialEq, Eq)]
@@ -32,6 +23,7 @@ pub struct Closing {
 /// The machine. What is shown, waits or runs is found in its record.
 #[derive(Clone, Debug)]
 pub struct Machine {
+    part: Part,
     phase: Phase,
     copying: bool,
     f2: u8,
@@ -43,21 +35,12 @@ pub struct Machine {
     record: Record,
 }
 
-/// Says whether F4, taking effect in sleep or standby, begins a conversion.
-/// Modes 1 and 2 always do; mode 3 does from sleep.
-fn begins(phase: Phase, value: u8) -> bool {
-    match value & 3 {
-        0 => false,
-        3 => phase != Phase::Standby,
-        _ => true,
-    }
-}
-
 impl Machine {
-    /// Makes the fresh state, as after a number of conversions begun and all delivered.
+    /// Makes a part's fresh state, as after a number of conversions begun and all delivered.
     /// It is in sleep and copying, with nothing shown and no burst.
-    pub fn fresh(begun: u64) -> Self {
+    pub fn fresh(part: Part, begun: u64) -> Self {
         Machine {
+            part,
             phase: Phase::Sleep,
             copying: true,
             f2: 0,
@@ -66,8 +49,14 @@ impl Machine {
             latched: [0; 3],
             held: None,
             next_address: None,
-            record: Record::fresh(begun),
+            record: Record::fresh(part, begun),
         }
+    }
+
+    /// Gives the kind of part.
+    /// The generator of walks looks at it.
+    pub fn part(&self) -> Part {
+        self.part
     }
 
     /// Gives the phase that the device is in.
@@ -86,12 +75,6 @@ impl Machine {
     /// The generator of walks looks at it.
     pub fn next_address(&self) -> Option<u16> {
         self.next_address
-    }
-
-    /// Says whether a conversion is running.
-    /// It may be a forced or a normal one.
-    fn running(&self) -> bool {
-        matches!(self.phase, Phase::Forced | Phase::Normal)
     }
 
     /// Gives 8 where one more conversion would begin and all have begun.
@@ -124,15 +107,13 @@ impl Machine {
         }
     }
 
-    /// Makes the state fresh but for the record, which goes on.
+    /// Makes the state fresh but for the record, which goes on; the part stays what it is.
     /// What was running, waiting or shown is found in the record.
     fn reset(&mut self) {
         self.record.add(Happening::Reset);
-        let record = std::mem::replace(&mut self.record, Record::fresh(0));
-        *self = Machine {
-            record,
-            ..Machine::fresh(0)
-        };
+        let fresh = Machine::fresh(self.part, 0);
+        let before = std::mem::replace(self, fresh);
+        self.record = before.record;
     }
 
     /// The power event, always done.
@@ -151,24 +132,24 @@ impl Machine {
         Ok(())
     }
 
-    /// The write event: checks 3, 4, 5 (copying and nothing running; not for E0), 8.
+    /// The write event: checks 3, 4 (F2 too on a BMP280), 5 (copying and nothing running; not for E0), 8.
     /// E0 resets, F2 and F5 are kept, F4 is held or takes effect.
     pub fn write(&mut self, register: u8, value: u8) -> Result<(), Number> {
         if self.next_address.is_some() {
             return Err(Number::BurstOpen);
         }
-        if !WRITABLE.contains(&register) {
+        if !self.part.writable(register) {
             return Err(Number::AddressNotAllowed);
         }
-        if self.copying && !self.running() && register != 0xE0 {
+        if self.copying && !self.phase.running() && register != 0xE0 {
             return Err(Number::Copying);
         }
         match register {
             0xE0 if value == RESET_VALUE => self.reset(),
             0xF2 => self.f2 = value & 7,
             0xF5 if self.phase == Phase::Sleep => self.f5 = value & !2,
-            0xF4 if !self.running() => {
-                self.check_begun(begins(self.phase, value))?;
+            0xF4 if !self.phase.running() => {
+                self.check_begun(self.phase.begins(value))?;
                 self.take_effect(value);
             }
             0xF4 if self.held.is_none() => self.held = Some(value),
@@ -191,7 +172,7 @@ impl Machine {
             Phase::Normal => Phase::Standby,
             _ => Phase::Sleep,
         };
-        self.check_begun(self.held.map_or(false, |value| begins(after, value)))?;
+        self.check_begun(self.held.map_or(false, |value| after.begins(value)))?;
         self.record.add(Happening::Finished(Finished {
             conversion,
             bytes: data::bytes(data::stored(counts, conversion.codes)),
@@ -235,9 +216,9 @@ impl Machine {
     /// Every address but the chip's id, status, data and control registers reads as 0.
     fn register(&self, address: u8) -> u8 {
         match address {
-            0xD0 => CHIP_ID,
+            0xD0 => self.part.chip_id(),
             0xF2 => self.f2,
-            0xF3 => (u8::from(self.running()) << 3) | u8::from(self.copying),
+            0xF3 => (u8::from(self.phase.running()) << 3) | u8::from(self.copying),
             0xF4 => self.f4,
             0xF5 => self.f5,
             0xF7..=0xFE => self.shown_bytes()[usize::from(address - 0xF7)],
@@ -245,10 +226,12 @@ impl Machine {
         }
     }
 
-    /// Gives the eight data bytes: those of the shown conversion.
-    /// With nothing shown they are the fresh bytes.
+    /// Gives what 0xF7 to 0xFE read as: the bytes of the shown conversion, or with nothing shown the fresh bytes.
+    /// Beyond the part's own data bytes they are 0.
     fn shown_bytes(&self) -> [u8; DATA] {
-        self.record.shown().map_or(FRESH_BYTES, |shown| shown.bytes)
+        let mut bytes = self.record.shown().map_or(FRESH_BYTES, |shown| shown.bytes);
+        bytes[self.part.data()..].fill(0);
+        bytes
     }
 
     /// The byte event: gives one register of the open burst and moves on.
@@ -262,19 +245,19 @@ impl Machine {
         Ok(byte)
     }
 
-    /// The close event with a lent buffer: checks 6, then 2 (not of eight bytes).
-    /// A whole burst writes the eight bytes and names the conversion shown; both ways end it.
+    /// The close event with a lent buffer: checks 6, then 2 (not of as many bytes as the part's data).
+    /// A whole burst writes the data bytes and names the conversion shown; both ways end it.
     pub fn close(&mut self, buffer: &mut [u8]) -> Result<Closing, Number> {
         if self.next_address.is_none() {
             return Err(Number::WrongPhase);
         }
-        if buffer.len() != DATA {
+        if buffer.len() != self.part.data() {
             return Err(Number::WrongLength);
         }
         let mut closing = Closing::default();
         if self.record.whole() {
             closing.whole = true;
-            buffer.copy_from_slice(&self.shown_bytes());
+            buffer.copy_from_slice(&self.shown_bytes()[..self.part.data()]);
             if let Some(shown) = self.record.shown() {
                 closing.number = shown.conversion.number;
                 closing.codes = shown.conversion.codes;

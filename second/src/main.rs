@@ -4,7 +4,7 @@ use second::day::file::File;
 use second::day::texts;
 use second::generate::{day_files, files, Generator, Kind};
 use second::visits::{answers, pack, show, LONGEST_RECORD};
-use second::{copying, day, edges, maps, sheet, streams, visits, words};
+use second::{bmp, copying, day, edges, maps, sheet, streams, visits, words};
 use std::fs;
 use std::io::{self, BufWriter, ErrorKind, Read, Write};
 use std::path::Path;
@@ -13,12 +13,15 @@ use std::process::ExitCode;
 const HELP: &str = "\
 second answer < FILE                  answers the bench's lines
 second generate COUNT SEED            writes COUNT lines of every command
-second generate-comp COUNT SEED       writes COUNT compensation readings
+second generate-bme COUNT SEED        writes COUNT lines of every command, without the BMP280
+second generate-comp COUNT SEED       writes COUNT compensation readings of a BME280
+second generate-readings COUNT SEED   writes COUNT compensation readings of both parts
 second generate-events COUNT SEED     writes COUNT machine events and ledgers
 second generate-rooms COUNT SEED      writes COUNT points, cells and comparisons of rooms
 second generate-visits COUNT SEED     writes COUNT lines of visit records
 second generate-days COUNT SEED       writes COUNT lines of days
 second sheet                          writes K1 to K14, other figures, the edges, copying, the rooms, the visits and the days
+second sheet bmp                      writes the fixed cases of a BMP280
 second visit read LEN < RECORD        answers as the bench does, for a record of any length
 second visit write LEN < STEPS        answers as the bench does, for any number of steps
 second visit show < RECORD            writes a record as a text for people
@@ -51,7 +54,6 @@ fn generate(kind: Kind, count: u64, seed: u64) -> io::Result<()> {
 /// Writes the lines of the sheet, of the edges, of copying, of the rooms, of the visits and of the days to standard output.
 /// Their order is fixed.
 fn sheet() -> io::Result<()> {
-    let mut output = BufWriter::new(io::stdout().lock());
     let parts = [
         sheet::lines(),
         edges::lines(),
@@ -60,7 +62,14 @@ fn sheet() -> io::Result<()> {
         visits::cases::lines(),
         day::cases::lines(),
     ];
-    for line in parts.concat() {
+    write_lines(parts.concat())
+}
+
+/// Writes lines to standard output.
+/// Each has its newline.
+fn write_lines(lines: Vec<String>) -> io::Result<()> {
+    let mut output = BufWriter::new(io::stdout().lock());
+    for line in lines {
         writeln!(output, "{line}")?;
     }
     output.flush()
@@ -153,13 +162,16 @@ fn run(arguments: &[&str]) -> Option<io::Result<()>> {
     match arguments {
         ["answer"] => Some(answer()),
         ["sheet"] => Some(sheet()),
+        ["sheet", "bmp"] => Some(write_lines(bmp::lines())),
         ["visit", rest @ ..] => visit(rest),
         ["day"] => Some(log(texts::table)),
         ["day", "--csv"] => Some(log(texts::csv)),
         [command, count, seed] => {
             let kind = match *command {
                 "generate" => Kind::Everything,
-                "generate-comp" => Kind::Readings,
+                "generate-bme" => Kind::BmeAlone,
+                "generate-comp" => Kind::Comp,
+                "generate-readings" => Kind::Readings,
                 "generate-events" => Kind::Events,
                 "generate-rooms" => Kind::Rooms,
                 "generate-visits" => Kind::Visits,

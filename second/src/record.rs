@@ -4,6 +4,7 @@ use crate::history::{
     opening_at, running_at, shown_at, waiting_at, whole_at, Conversion, Finished, Happening,
 };
 use crate::ledger::{deliveries, places, Ledger, Place};
+use crate::part::Part;
 
 const ROOM: usize = 48;
 
@@ -26,6 +27,7 @@ const ROOM: usize = 48;
 ///   kept lies after the latest one.
 #[derive(Clone, Debug)]
 pub struct Record {
+    part: Part,
     history: Vec<Happening>,
     fold_at: usize,
     settled: Ledger,
@@ -33,10 +35,11 @@ pub struct Record {
 }
 
 impl Record {
-    /// Starts a record as after a number of conversions begun and all delivered.
+    /// Starts a part's record as after a number of conversions begun and all delivered.
     /// With 0 it is the record of the fresh state.
-    pub fn fresh(begun: u64) -> Self {
+    pub fn fresh(part: Part, begun: u64) -> Self {
         Record {
+            part,
             history: Vec::new(),
             fold_at: ROOM,
             settled: Ledger {
@@ -86,16 +89,16 @@ impl Record {
         shown_at(&self.history, self.history.len())
     }
 
-    /// Says whether the open burst has given all of 0xF7 to 0xFE.
+    /// Says whether the open burst has given all of the part's data bytes.
     /// Without an open burst it hasn't.
     pub fn whole(&self) -> bool {
-        whole_at(&self.history, self.history.len())
+        whole_at(self.part, &self.history, self.history.len())
     }
 
     /// Says whether a conversion that is still shown was delivered before now.
     /// The history holds its first whole burst, if there was one.
     pub fn delivered(&self, number: u64) -> bool {
-        let list = deliveries(&self.history);
+        let list = deliveries(self.part, &self.history);
         list.iter().any(|delivery| delivery.number == number)
     }
 
@@ -103,7 +106,7 @@ impl Record {
     /// The conversions folded away are added as they were settled.
     pub fn ledger(&self) -> Ledger {
         let mut ledger = self.settled;
-        for (_, place) in places(&self.history) {
+        for (_, place) in places(self.part, &self.history) {
             ledger.count(place);
         }
         ledger
@@ -118,12 +121,12 @@ impl Record {
         let waiting = waiting_at(history, end).map(|finished| finished.conversion.number);
         let running = running_at(history, end).map(|conversion| conversion.number);
         let kept = |number: u64| [shown, waiting, running].contains(&Some(number));
-        let gone: Vec<Place> = places(history)
+        let gone: Vec<Place> = places(self.part, history)
             .into_iter()
             .filter(|(number, _)| !kept(*number))
             .map(|(_, place)| place)
             .collect();
-        let first = deliveries(history)
+        let first = deliveries(self.part, history)
             .into_iter()
             .find(|delivery| Some(delivery.number) == shown)
             .and_then(|delivery| Some(opening_at(history, delivery.moment)?..=delivery.moment));

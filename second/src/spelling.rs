@@ -4,6 +4,7 @@ use crate::answers::Answer;
 use crate::calibration::{blocks, Words};
 use crate::compensation::Input;
 use crate::data;
+use crate::part::Part;
 
 /// Spells bytes as hex pairs run together, with a dash for none.
 /// It is the same spelling as in answers.
@@ -31,7 +32,7 @@ pub fn input(words: &Words, counts: [u64; 3], codes: [u64; 3]) -> Input {
     }
 }
 
-/// Spells a command of one reading: comp, point or cells.
+/// Spells a command of one reading: comp, bmp, point or cells.
 /// Lengths and codes may be wrong.
 pub fn asked(name: &str, input: &Input) -> String {
     let [one, two, data] = [&input.one, &input.two, &input.data].map(|bytes| hex(bytes));
@@ -43,6 +44,19 @@ pub fn asked(name: &str, input: &Input) -> String {
 /// It is the most common command.
 pub fn reading(words: &Words, counts: [u64; 3], codes: [u64; 3]) -> String {
     asked("comp", &input(words, counts, codes))
+}
+
+/// Spells the fresh state of a part, with or without a number of conversions begun.
+/// A BME280 has no word of its own.
+pub fn fresh(part: Part, begun: Option<u64>) -> String {
+    let name = match part {
+        Part::Bme280 => "fresh",
+        Part::Bmp280 => "fresh bmp",
+    };
+    match begun {
+        Some(begun) => format!("{name} {begun}"),
+        None => String::from(name),
+    }
 }
 
 /// Spells the comparison of two rooms.

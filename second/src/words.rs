@@ -34,6 +34,16 @@ pub fn split(line: &[u8]) -> Vec<&[u8]> {
     line.split(|byte| *byte == b' ').collect()
 }
 
+/// Checks that a line has as many words as its command takes.
+/// The command's own word or words are counted in.
+pub fn check_count(words: &[&[u8]], count: usize) -> Result<(), Reason> {
+    if words.len() == count {
+        Ok(())
+    } else {
+        Err(Reason::WrongNumberOfWords)
+    }
+}
+
 /// Reads a decimal word: one or more digits, at most 4,294,967,295.
 /// Leading zeros are allowed, any count of them.
 pub fn decimal(word: &[u8]) -> Result<u64, Reason> {

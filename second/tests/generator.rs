@@ -5,8 +5,10 @@ use second::lines::Bench;
 use second::words::LONGEST_LINE;
 use std::collections::BTreeSet;
 
-const KINDS: [Kind; 6] = [
+const KINDS: [Kind; 8] = [
     Kind::Everything,
+    Kind::BmeAlone,
+    Kind::Comp,
     Kind::Readings,
     Kind::Events,
     Kind::Rooms,
@@ -80,13 +82,17 @@ fn seeds_decide() {
 /// A mix of their bytes is held to a figure written down once; a changed generator changes it.
 #[test]
 fn machines_agree() {
-    let mut mix = 0xCBF2_9CE4_8422_2325_u64;
-    for line in lines(Kind::Everything, 20_000, 1) {
-        for byte in line.bytes().chain([b'\n']) {
-            mix = (mix ^ u64::from(byte)).wrapping_mul(0x0100_0000_01B3);
+    let mix = |kind| {
+        let mut mix = 0xCBF2_9CE4_8422_2325_u64;
+        for line in lines(kind, 20_000, 1) {
+            for byte in line.bytes().chain([b'\n']) {
+                mix = (mix ^ u64::from(byte)).wrapping_mul(0x0100_0000_01B3);
+            }
         }
-    }
-    assert_eq!(mix, 2_435_631_605_030_239_922);
+        mix
+    };
+    assert_eq!(mix(Kind::BmeAlone), 2_435_631_605_030_239_922);
+    assert_eq!(mix(Kind::Everything), 10_666_928_564_144_114_147);
 }
 
 /// Each kind has its own commands only, and no line holds a newline.
@@ -98,9 +104,16 @@ fn kinds_have_their_commands() {
     let events = [
         "fresh", "power", "copied", "wake", "write", "finish", "open", "byte", "close", "ledger",
     ];
-    assert!(lines(Kind::Readings, 10_000, 3)
+    assert!(lines(Kind::Comp, 10_000, 3)
         .iter()
         .all(|line| starts(line, &["comp"])));
+    let readings = lines(Kind::Readings, 10_000, 3);
+    assert!(readings.iter().all(|line| starts(line, &["comp", "bmp"])));
+    let share = readings
+        .iter()
+        .filter(|line| starts(line, &["bmp"]))
+        .count();
+    assert!((3_500..4_500).contains(&share), "{share}");
     let rooms = lines(Kind::Rooms, 10_000, 3);
     assert!(rooms
         .iter()
@@ -121,9 +134,33 @@ fn kinds_have_their_commands() {
     let others = [
         "cal", "comp", "point", "cells", "rooms", "wait", "poll", "i2c", "spi", "visit", "day",
     ];
-    for name in others.iter().chain(&events) {
+    for name in others.iter().chain(&events).chain(&["bmp"]) {
         assert!(all.iter().any(|line| starts(line, &[name])), "{name}");
     }
+    let alone = lines(Kind::BmeAlone, 60_000, 3);
+    assert!(alone.iter().all(|line| !line.contains("bmp")));
+}
+
+/// Fresh states of both parts come in walks, with and without a number, and so do spoilt ones among all commands.
+/// Every reason comes for a line that begins as a BMP280's does.
+#[test]
+fn both_parts_come() {
+    let walked = lines(Kind::Events, 20_000, 11);
+    let count = |wanted: &dyn Fn(&str) -> bool| walked.iter().filter(|line| wanted(line)).count();
+    assert!(count(&|line| line == "fresh") > 15);
+    assert!(count(&|line| line == "fresh bmp") > 15);
+    assert!(count(&|line| line.starts_with("fresh bmp ")) > 10);
+    assert!(count(&|line| line.starts_with("fresh ") && !line.contains("bmp")) > 10);
+    assert!(count(&|line| line.starts_with("close 6")) > 300);
+    let all: Vec<String> = lines(Kind::Everything, 60_000, 11);
+    let spoken: Vec<String> = all.into_iter().filter(|line| !line.is_empty()).collect();
+    let text = answers(&spoken);
+    let said = spoken.iter().zip(text.lines());
+    let own = said.filter(|(line, _)| line.starts_with("bmp") || line.starts_with("fresh bmp"));
+    let reasons: BTreeSet<&str> = own
+        .filter_map(|(_, said)| said.strip_prefix("? "))
+        .collect();
+    assert_eq!(reasons.len(), 5, "{reasons:?}");
 }
 
 /// Walks are made of real conversions: most events are done, and all closings come.

@@ -20,6 +20,7 @@ struct Counter {
     next_address: u16,
     opened_low: bool,
     burst: bool,
+    bmp: bool,
 }
 
 impl Counter {
@@ -77,6 +78,7 @@ impl Counter {
             delivered: self.delivered,
             overwritten: self.overwritten,
             abandoned: self.abandoned + found.iter().flatten().count() as u64,
+            bmp: self.bmp,
             ..Counter::default()
         };
     }
@@ -84,7 +86,8 @@ impl Counter {
     /// Closes the burst and gives what the answer has to say of the conversion.
     /// Then what waits is shown.
     fn close(&mut self) -> String {
-        let whole = self.opened_low && self.next_address > 0xFE;
+        let last = if self.bmp { 0xFC } else { 0xFE };
+        let whole = self.opened_low && self.next_address > last;
         let text = match self.shown.filter(|_| whole) {
             Some(number) => {
                 let before = u64::from(self.shown_delivered);
@@ -150,12 +153,11 @@ fn step(bench: &mut Bench, counter: &mut Counter, line: &str) -> String {
     let answer = String::from_utf8(out).expect("answers are text");
     let words: Vec<&str> = line.split(' ').collect();
     if words[0] == "fresh" {
-        let begun = words
-            .get(1)
-            .map_or(0, |word| word.parse().expect("a decimal"));
+        let begun = words.last().and_then(|word| word.parse().ok());
         *counter = Counter {
-            begun,
-            delivered: begun,
+            begun: begun.unwrap_or(0),
+            delivered: begun.unwrap_or(0),
+            bmp: words.get(1) == Some(&"bmp"),
             ..Counter::default()
         };
     } else if answer.starts_with("0") {
@@ -198,11 +200,11 @@ fn generated_walks() {
     }
 }
 
-/// Walks without any reset or fresh state, long enough to be folded many times.
+/// Walks without any reset, long enough to be folded many times.
 /// Repeated bursts and finishes under a burst that stays open are among them.
-#[test]
-fn long_walks_without_reset() {
+fn long_walk(start: &str, data: usize) {
     let (mut bench, mut counter) = (Bench::default(), Counter::default());
+    step(&mut bench, &mut counter, start);
     let mut run = |lines: &str| {
         for line in lines.split(';') {
             step(&mut bench, &mut counter, line);
@@ -210,29 +212,38 @@ fn long_walks_without_reset() {
     };
     let next = "wake;copied;finish 1 2 3";
     run("copied;write F4 27;copied;finish 1 2 3");
-    let bytes = ";byte".repeat(8);
+    let bytes = ";byte".repeat(data);
+    let close = format!("close {data}");
     for _ in 0..100 {
         run(&format!(
-            "open F7{bytes};close 8;wake;copied;open F7{bytes};finish 1 2 3;close 8"
+            "open F7{bytes};{close};wake;copied;open F7{bytes};finish 1 2 3;{close}"
         ));
-        run(&format!("{next};{next};open F7;{next};close 8"));
+        run(&format!("{next};{next};open F7;{next};{close}"));
     }
     run("open F7;byte");
     for _ in 0..500 {
         run(next);
     }
-    run(&format!("{};wake;close 8;ledger", &bytes[1..]));
+    run(&format!("{};wake;{close};ledger", &bytes[1..]));
     for _ in 0..100 {
-        run(&format!("open 80{};close 8", ";byte".repeat(128)));
+        run(&format!("open 80{};{close}", ";byte".repeat(128)));
     }
     run("copied;finish 1 2 3;power;ledger");
 }
 
-/// Every sequence of five out of twelve happenings, from a machine that is ready.
-/// Eight bytes go as one of them, and so does a finish with the copied event before it.
+/// Both parts walk long without a reset.
+/// Each has its own number of bytes.
 #[test]
-fn every_short_walk() {
-    let bytes = ["byte"; 8].join(";");
+fn long_walks_without_reset() {
+    long_walk("fresh", 8);
+    long_walk("fresh bmp", 6);
+}
+
+/// Every sequence of five out of twelve happenings, from a machine that is ready.
+/// The data bytes go as one of them, and so does a finish with the copied event before it.
+fn short_walks(start: &str, data: usize) {
+    let bytes = vec!["byte"; data].join(";");
+    let close = format!("close {data}");
     let choices = [
         "write F4 25",
         "write F4 27",
@@ -244,12 +255,13 @@ fn every_short_walk() {
         "wake",
         "open F7",
         &bytes,
-        "close 8",
+        &close,
         "copied",
     ];
     let all = choices.len().pow(5);
     for walk in 0..all {
         let (mut bench, mut counter) = (Bench::default(), Counter::default());
+        step(&mut bench, &mut counter, start);
         step(&mut bench, &mut counter, "copied");
         let mut rest = walk;
         for _ in 0..5 {
@@ -259,4 +271,12 @@ fn every_short_walk() {
             rest /= choices.len();
         }
     }
+}
+
+/// Both parts walk every short walk.
+/// Each has its own number of bytes.
+#[test]
+fn every_short_walk() {
+    short_walks("fresh", 8);
+    short_walks("fresh bmp", 6);
 }

@@ -4,6 +4,7 @@ use second::history::{
     running_at, shown_at, waiting_at, whole_at, Conversion, Finished, Happening,
 };
 use second::ledger::{deliveries, places, Ledger};
+use second::part::Part;
 use second::random::Random;
 use second::record::Record;
 
@@ -39,8 +40,8 @@ fn next(random: &mut Random, whole: &[Happening], open: bool, begun: u64) -> Opt
 
 /// Counts the places of a whole history.
 /// Every conversion has one place, and only one.
-fn count(whole: &[Happening], begun: u64) -> Ledger {
-    let mut list = places(whole);
+fn count(part: Part, whole: &[Happening], begun: u64) -> Ledger {
+    let mut list = places(part, whole);
     list.sort_by_key(|(number, _)| *number);
     let numbers: Vec<u64> = list.iter().map(|(number, _)| *number).collect();
     assert_eq!(numbers, (1..=begun).collect::<Vec<u64>>());
@@ -51,13 +52,17 @@ fn count(whole: &[Happening], begun: u64) -> Ledger {
     ledger
 }
 
-/// Random histories: the folded record answers as the whole history does.
+/// Random histories of both parts: the folded record answers as the whole history does.
 /// The ledger, what runs and is shown, whole bursts and deliveries are compared.
 #[test]
 fn folding_changes_nothing() {
-    for seed in 0..4 {
-        let mut random = Random::new(seed);
-        let mut record = Record::fresh(0);
+    for (seed, part) in [Part::Bme280, Part::Bmp280]
+        .repeat(3)
+        .into_iter()
+        .enumerate()
+    {
+        let mut random = Random::new(seed as u64);
+        let mut record = Record::fresh(part, 0);
         let mut whole: Vec<Happening> = Vec::new();
         let mut open = false;
         for round in 0..6_000 {
@@ -78,13 +83,15 @@ fn folding_changes_nothing() {
             let end = whole.len();
             assert_eq!(record.running(), running_at(&whole, end));
             assert_eq!(record.shown(), shown_at(&whole, end));
-            assert_eq!(record.whole(), whole_at(&whole, end));
+            assert_eq!(record.whole(), whole_at(part, &whole, end));
             assert!(open || waiting_at(&whole, end).is_none());
             if round % 20 == 0 {
-                assert_eq!(record.ledger(), count(&whole, record.begun()));
+                assert_eq!(record.ledger(), count(part, &whole, record.begun()));
                 if let Some(shown) = record.shown() {
                     let number = shown.conversion.number;
-                    let found = deliveries(&whole).iter().any(|one| one.number == number);
+                    let found = deliveries(part, &whole)
+                        .iter()
+                        .any(|one| one.number == number);
                     assert_eq!(record.delivered(number), found);
                 }
             }

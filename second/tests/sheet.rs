@@ -5,6 +5,7 @@ mod common;
 use common::check;
 use second::calibration::{blocks, read, Words};
 use second::lines::Bench;
+use second::part::Part;
 use second::sheet;
 use second::spelling::reading;
 
@@ -101,7 +102,7 @@ fn k5_k6_k7() {
 #[test]
 fn k8() {
     let zeros = [0; 26];
-    let words = read(&zeros, &[0, 0, 0, 0xFF, 0x1F, 0x80, 0]).expect("right lengths");
+    let words = read(Part::Bme280, &zeros, &[0, 0, 0, 0xFF, 0x1F, 0x80, 0]).expect("right lengths");
     assert_eq!((words.h[3], words.h[4]), (-1, -2047));
 }
 
@@ -248,5 +249,5 @@ fn the_sheet_is_commands() {
         h: [255, -32768, 255, -2048, 2047, -128],
     };
     let (one, two) = blocks(&words);
-    assert_eq!(read(&one, &two), Ok(words));
+    assert_eq!(read(Part::Bme280, &one, &two), Ok(words));
 }

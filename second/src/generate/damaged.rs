@@ -118,8 +118,8 @@ fn valid(random: &mut Random) -> String {
 
 /// Changes one character of a line: lost, doubled, or junk in its place or before it.
 /// What comes of it may be a command still.
-fn touched(random: &mut Random) -> String {
-    let characters: Vec<char> = valid(random).chars().collect();
+pub fn touched(random: &mut Random, line: String) -> String {
+    let characters: Vec<char> = line.chars().collect();
     let junk: Vec<char> = JUNK.chars().collect();
     let place = random.below(characters.len() as u64) as usize;
     let (before, rest) = characters.split_at(place);
@@ -136,8 +136,7 @@ fn touched(random: &mut Random) -> String {
 
 /// Makes a line with a word too few or too many.
 /// A space too many makes an empty word.
-fn miscounted(random: &mut Random) -> String {
-    let line = valid(random);
+pub fn miscounted(random: &mut Random, line: String) -> String {
     match random.below(5) {
         0 => line
             .rsplit_once(' ')
@@ -171,6 +170,12 @@ fn long(random: &mut Random) -> String {
         ("day - - ", "00", " 185"),
         ("day - - - ", "0", "0"),
     ]);
+    filled(length, start, filling, end)
+}
+
+/// Makes a line of so many bytes, or one less, by repeating the middle.
+/// The start and the end stand once.
+pub fn filled(length: usize, start: &str, filling: &str, end: &str) -> String {
     let room = length - start.len() - end.len();
     let middle = filling.repeat(room / filling.len());
     format!("{start}{middle}{end}")
@@ -200,8 +205,14 @@ pub fn line(random: &mut Random) -> String {
         10..=19 => random.pick(&UNKNOWN_SECOND).into(),
         20..=34 => random.pick(&NO_NUMBERS).into(),
         35..=42 => random.pick(&ODD).into(),
-        43..=57 => miscounted(random),
-        58..=89 => touched(random),
+        43..=57 => {
+            let line = valid(random);
+            miscounted(random, line)
+        }
+        58..=89 => {
+            let line = valid(random);
+            touched(random, line)
+        }
         90..=95 => long_buffer(random),
         96..=97 => long(random),
         _ => String::new(),

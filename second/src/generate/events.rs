@@ -65,6 +65,19 @@ pub fn finish(random: &mut Random) -> String {
     format!("finish {t} {p} {h}")
 }
 
+/// Makes a line that finishes a BMP280's conversion.
+/// The third count, which isn't used, is often at an edge of its bits or beyond them.
+pub fn finish_bmp(random: &mut Random) -> String {
+    let line = finish(random);
+    match line.rsplit_once(' ') {
+        Some((start, _)) if random.percent(12) => {
+            let third = random.pick(&[0, 0x8000, 65_535, 65_536, 4_294_967_295_u64]);
+            format!("{start} {third}")
+        }
+        _ => line,
+    }
+}
+
 /// Makes a line that wakes the device.
 /// There is one such line only.
 pub fn wake(_: &mut Random) -> String {
@@ -91,6 +104,15 @@ pub fn close(random: &mut Random) -> String {
     match random.percent(94) {
         true => String::from("close 8"),
         false => format!("close {}", random.pick(&[0, 1, 7, 9, 16, 256])),
+    }
+}
+
+/// Makes a line that closes a BMP280's burst.
+/// A few have a buffer of a wrong length, the BME280's eight among them.
+pub fn close_bmp(random: &mut Random) -> String {
+    match random.percent(75) {
+        true => String::from("close 6"),
+        false => format!("close {}", random.pick(&[0, 5, 7, 8, 8, 256])),
     }
 }
 

@@ -3,6 +3,7 @@
 //! Lines come in episodes of one subject. Every line is also answered by a bench
 //! of the generator's own, so that walks know which phase they have led to.
 
+mod bmp;
 mod buses;
 mod chips;
 mod damaged;
@@ -21,15 +22,19 @@ mod visits;
 mod walks;
 
 use crate::lines::Bench;
+use crate::part::Part;
 use crate::random::Random;
+use crate::spelling::fresh;
 use std::collections::VecDeque;
 
 const LINES_TO_TOUR: u64 = 4000;
 
-/// What kind of lines to write.
+/// What kind of lines to write. The stored cases have those of a BME280 alone as they were before the BMP280 came.
 #[derive(Clone, Copy, Debug, PartialEq, Eq)]
 pub enum Kind {
     Everything,
+    BmeAlone,
+    Comp,
     Readings,
     Events,
     Rooms,
@@ -83,16 +88,31 @@ impl Generator {
     /// Of everything, a tour comes round in fixed distances, so that each number is reached.
     fn episode(&mut self) {
         match self.kind {
-            Kind::Readings => self.readings(),
+            Kind::Comp | Kind::Readings => self.readings(),
             Kind::Events => self.events(),
             Kind::Rooms => self.rooms(),
             Kind::Visits => self.visits(),
             Kind::Days => self.days(),
-            Kind::Everything if self.since_tour >= LINES_TO_TOUR => {
+            Kind::Everything | Kind::BmeAlone if self.since_tour >= LINES_TO_TOUR => {
                 self.since_tour = 0;
                 self.tour();
             }
-            Kind::Everything => self.anything(),
+            Kind::Everything | Kind::BmeAlone => self.anything(),
+        }
+    }
+
+    /// Says whether no line is to be of a BMP280.
+    /// Nothing is drawn from the source for it then.
+    fn bme_alone(&self) -> bool {
+        matches!(self.kind, Kind::BmeAlone | Kind::Comp)
+    }
+
+    /// Picks the part of the next fresh state.
+    /// Either one is as likely, where there are both.
+    fn part(&mut self) -> Part {
+        match self.bme_alone() {
+            true => Part::Bme280,
+            false => self.random.pick(&[Part::Bme280, Part::Bmp280]),
         }
     }
 
@@ -102,13 +122,14 @@ impl Generator {
         if self.random.percent(10) {
             self.walk_at_limit();
         } else {
-            match self.random.below(10) {
-                0 | 1 => self.say("fresh"),
-                2 => {
-                    let begun = self.random.below(1_000);
-                    self.say(format!("fresh {begun}"));
-                }
-                _ => {}
+            let begun = match self.random.below(10) {
+                0 | 1 => Some(None),
+                2 => Some(Some(self.random.below(1_000))),
+                _ => None,
+            };
+            if let Some(begun) = begun {
+                let part = self.part();
+                self.say(fresh(part, begun));
             }
             self.walk();
         }
@@ -143,7 +164,10 @@ impl Generator {
     /// Writes a run of compensation readings.
     /// It is long enough to be most of what is generated.
     fn readings(&mut self) {
-        self.run(5, 25, readings::reading);
+        match self.bme_alone() {
+            true => self.run(5, 25, readings::reading),
+            false => self.run(5, 25, bmp::either_reading),
+        }
     }
 
     /// Writes a run of points, cells and comparisons of rooms.
@@ -191,6 +215,9 @@ impl Generator {
     /// Writes a few lines that are, for the most part, none of the commands.
     /// Those that are commands after all change the machine as they should.
     fn damaged(&mut self) {
-        self.run(2, 8, damaged::line);
+        match self.bme_alone() {
+            true => self.run(2, 8, damaged::line),
+            false => self.run(2, 8, bmp::either_damaged),
+        }
     }
 }

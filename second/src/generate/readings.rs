@@ -43,7 +43,7 @@ pub fn wide_counts(random: &mut Random) -> [u64; 3] {
 
 /// Makes three oversampling codes: most enable all channels.
 /// Some skip a channel, and a few lie beyond 7.
-fn codes(random: &mut Random) -> [u64; 3] {
+pub fn codes(random: &mut Random) -> [u64; 3] {
     let mut codes = [0; 3].map(|_: u64| 1 + random.below(7));
     if random.percent(20) {
         codes[random.below(3) as usize] = 0;
@@ -98,7 +98,7 @@ pub fn chip(random: &mut Random) -> (Words, [u64; 3]) {
 
 /// Makes both blocks and the eight bytes of one reading.
 /// A few are junk, all zero or all FF; the unused byte and nibbles may be anything.
-fn bytes(random: &mut Random) -> [Vec<u8>; 3] {
+pub fn bytes(random: &mut Random) -> [Vec<u8>; 3] {
     let lengths = [BLOCK_ONE, BLOCK_TWO, DATA];
     match random.below(100) {
         0..=5 => lengths.map(|length| random.bytes(length)),
@@ -122,10 +122,10 @@ fn bytes(random: &mut Random) -> [Vec<u8>; 3] {
 
 /// Makes one part shorter or longer than it should be.
 /// It may lose all its bytes.
-fn damage(random: &mut Random, parts: &mut [Vec<u8>]) {
+pub fn damage(random: &mut Random, parts: &mut [Vec<u8>]) {
     let part = random.below(parts.len() as u64) as usize;
     let length = parts[part].len();
-    let length = random.pick(&[0, 1, length - 1, length + 1, length + 9]);
+    let length = random.pick(&[0, 1, length.saturating_sub(1), length + 1, length + 9]);
     parts[part].resize(length, 0x5A);
 }
 

@@ -5,6 +5,7 @@ use crate::compensation::{compensate, Input};
 use crate::data::{self, DATA};
 use crate::maps;
 use crate::numbers::Number;
+use crate::part::Part;
 use crate::random::Random;
 use crate::rooms::{channels, difference};
 use crate::spelling::{asked, input, rooms};
@@ -118,7 +119,7 @@ fn tolerance(random: &mut Random, one: Result<i64, Number>, other: Result<i64, N
 /// The tolerances are chosen by what the rooms truly have.
 fn comparison(random: &mut Random) -> String {
     let [one, other] = pair(random);
-    let [first, second] = [&one, &other].map(|input| channels(compensate(input)));
+    let [first, second] = [&one, &other].map(|input| channels(compensate(Part::Bme280, input)));
     let tolerances = [0, 1, 2].map(|place: usize| tolerance(random, first[place], second[place]));
     rooms(&one, &other, tolerances)
 }

@@ -23,6 +23,9 @@ impl Generator {
         self.tour_of_copying();
         self.tour_of_limit();
         self.tour_of_reasons();
+        if !self.bme_alone() {
+            self.tour_of_bmp();
+        }
         self.say("fresh");
     }
 
@@ -208,7 +211,7 @@ impl Generator {
 
     /// Writes several lines that stand in one text.
     /// Semicolons part them.
-    fn script(&mut self, lines: &str) {
+    pub(super) fn script(&mut self, lines: &str) {
         for line in lines.split(';') {
             self.say(line);
         }

@@ -1,8 +1,11 @@
 //! Long walks of events, biased by the phase that they have led to.
 
 use super::{events, Generator};
-use crate::machine::{Phase, MOST_CONVERSIONS};
+use crate::machine::MOST_CONVERSIONS;
+use crate::part::Part;
+use crate::phase::Phase;
 use crate::random::Random;
+use crate::spelling::fresh;
 
 impl Generator {
     /// Writes a walk of many events, with the ledger in between and at its end.
@@ -18,7 +21,8 @@ impl Generator {
     /// Number 8 comes in it by write, by finish with a held F4, or by wake.
     pub(super) fn walk_at_limit(&mut self) {
         let begun = MOST_CONVERSIONS - self.random.pick(&[0, 1, 1, 1, 2, 3]);
-        self.say(format!("fresh {begun}"));
+        let part = self.part();
+        self.say(fresh(part, Some(begun)));
         self.say("copied");
         for _ in 0..self.random.between(8, 30) {
             self.step();
@@ -29,7 +33,8 @@ impl Generator {
             }
         }
         self.say("ledger");
-        self.say("fresh");
+        let part = self.part();
+        self.say(fresh(part, None));
     }
 
     /// Writes one step of a walk, of one event or more.
@@ -59,6 +64,31 @@ impl Generator {
         self.say(line);
     }
 
+    /// Gives how a finish is made for the machine's part.
+    /// A BMP280's third count is at an edge more often.
+    fn finish(&self) -> fn(&mut Random) -> String {
+        match self.bench.machine().part() {
+            Part::Bme280 => events::finish,
+            Part::Bmp280 => events::finish_bmp,
+        }
+    }
+
+    /// Writes a close that may have a wrong length.
+    /// Those of a BMP280 have its own lengths.
+    fn any_close(&mut self) {
+        match self.bench.machine().part() {
+            Part::Bme280 => self.one(events::close),
+            Part::Bmp280 => self.one(events::close_bmp),
+        }
+    }
+
+    /// Writes a close with a buffer of the right length.
+    /// It is eight for a BME280, and six for a BMP280.
+    fn close(&mut self) {
+        let length = self.bench.machine().part().data();
+        self.say(format!("close {length}"));
+    }
+
     /// Says whether a conversion is running for which calibration is still being copied.
     /// It can't finish yet.
     fn begun_copying(&self) -> bool {
@@ -83,7 +113,7 @@ impl Generator {
             0..=6 => self.one(events::write_f4),
             7..=13 => self.one(events::write_settings),
             14 | 15 => self.one(events::write_reset),
-            16 | 17 => self.one(events::finish),
+            16 | 17 => self.one(self.finish()),
             18..=23 => self.burst(),
             24..=26 => self.status(),
             _ => self.say("copied"),
@@ -107,7 +137,7 @@ impl Generator {
     /// Copying ends soon; until then no finish is done, and writes go by the running rules.
     fn step_begun(&mut self) {
         match self.random.below(100) {
-            0..=10 => self.one(events::finish),
+            0..=10 => self.one(self.finish()),
             11..=23 => self.one(events::write_f4),
             24..=34 => self.one(events::write_settings),
             35 | 36 => self.one(events::write_reset),
@@ -130,14 +160,14 @@ impl Generator {
             }
             self.say("byte");
         }
-        self.say("close 8");
+        self.close();
     }
 
     /// Writes a step while a conversion is running and its copying is over.
     /// It finishes soon; F4 is held before that in many cases.
     fn step_running(&mut self) {
         match self.random.below(100) {
-            0..=54 => self.beginning(events::finish),
+            0..=54 => self.beginning(self.finish()),
             55..=72 => self.one(events::write_f4),
             73..=78 => self.one(events::write_settings),
             79 | 80 => self.one(events::write_reset),
@@ -169,7 +199,7 @@ impl Generator {
             35..=66 => self.under_burst(),
             67..=70 => self.one(events::any),
             71..=73 => self.say("power"),
-            _ => self.one(events::close),
+            _ => self.any_close(),
         }
     }
 
@@ -183,12 +213,24 @@ impl Generator {
         let machine = self.bench.machine();
         match (machine.phase(), machine.copying()) {
             (Phase::Forced | Phase::Normal, true) if self.random.percent(15) => {
-                self.one(events::finish)
+                self.one(self.finish())
             }
             (_, true) => self.say("copied"),
-            (Phase::Forced | Phase::Normal, _) => self.beginning(events::finish),
+            (Phase::Forced | Phase::Normal, _) => self.beginning(self.finish()),
             (Phase::Standby, _) => self.beginning(events::wake),
             (Phase::Sleep, _) => self.say("byte"),
+        }
+    }
+
+    /// Picks how many bytes a burst from this address gives, so that it is whole or nearly so.
+    /// A BMP280's ends at its last data byte, one before it, at FD, FE or FF, or past FF.
+    fn whole_bytes(&mut self, address: u8) -> i64 {
+        match self.bench.machine().part() {
+            Part::Bme280 => 0xFF - i64::from(address) + i64::from(self.random.percent(20)) * 2,
+            Part::Bmp280 => {
+                let more = [-1, 0, 0, 0, 0, 0, 0, 0, 1, 1, 2, 2, 3, 5];
+                0xFD - i64::from(address) + self.random.pick(&more)
+            }
         }
     }
 
@@ -203,7 +245,7 @@ impl Generator {
         let whole = self.random.percent(70) && address >= 0xE0;
         let restless = self.random.percent(45);
         let bytes = match whole {
-            true => 0xFF - i64::from(address) + i64::from(self.random.percent(20)) * 2,
+            true => self.whole_bytes(address),
             false => self.random.between(0, 9),
         };
         for _ in 0..bytes {
@@ -216,15 +258,15 @@ impl Generator {
             return;
         }
         if self.random.percent(15) {
-            self.one(events::close);
+            self.any_close();
         }
-        self.say("close 8");
+        self.close();
         if whole && self.random.percent(35) {
             self.say("open F7");
-            for _ in 0..8 {
+            for _ in 0..self.bench.machine().part().data() {
                 self.say("byte");
             }
-            self.say("close 8");
+            self.close();
         }
     }
 }
