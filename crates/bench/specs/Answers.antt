@@ -20,7 +20,7 @@ askedAnswered asks.Nothing line bytes m page = (m, page)
 askedAnswered (asks.Refused reason) line bytes m page = (m, refused reason page)
 askedAnswered (asks.Question question) line bytes m page = (m, ended (page ▹ replied question bytes))
 askedAnswered (asks.VisitWrite room from) line bytes m page = (m, visits.write line from room page)
-askedAnswered (asks.Fresh conversions) line bytes m page = outcomes.fresh conversions page
+askedAnswered (asks.Fresh kind conversions) line bytes m page = outcomes.fresh kind conversions page
 askedAnswered (asks.Event event) line bytes m page = outcomes.event m event page
 askedAnswered asks.Ledger line bytes m page = (m, page ▹ outcomes.tally (tallied m) ▹ outcomes.newline)
 

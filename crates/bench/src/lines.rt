@@ -40,7 +40,7 @@ fn answer_asked(
             m,
             bench_visit::write(line, from, room, out, at),
         ),
-        Asked::Fresh(n) => return bench_machine::fresh(n, out, at),
+        Asked::Fresh(kind, n) => return bench_machine::fresh(kind, n, out, at),
         Asked::Event(event) => return bench_machine::event(m, event, out, at),
         Asked::Ledger => return stay(m, bench_machine::ledger(m, out, at)),
     }

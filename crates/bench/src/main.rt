@@ -6,6 +6,7 @@ mod lines; // what a line is answered
 use bench_bytes::front;
 use bench_bytes::rest;
 use bench_machine::Answered;
+use kinds::Kind;
 use libc::STDERR_FILENO;
 use libc::STDIN_FILENO;
 use libc::STDOUT_FILENO;
@@ -133,10 +134,10 @@ fn finish(kept: Bench, out: &[u8]) {
     }
 }
 
-// The fresh machine and an empty page.
+// The fresh machine of a BME280 and an empty page.
 fn start() -> Answered {
     Answered {
-        machine: machine_start::fresh(),
+        machine: machine_start::fresh(Kind::Bme280),
         at: 0,
     }
 }

@@ -6,6 +6,7 @@ use mathlib.Core.List.{List, [], _∷_}
 use mathlib.Core.Path.{_≡_, refl, sym, ap, _∙_}
 use lib.ListN.{length, take, drop}
 use lib.Seq.{drop-drop}
+use Rattle.kinds.specs.declared.Kind.the-variants.{Bme280}
 use Rattle.bench_command.specs.declared.Shown.the-variants.{Rooms}
 use Rattle.bench_command.specs.Words as words
 use Rattle.bench_command.specs.Table.{Row, row, reading, commands, fits, isOf, askedBy, refused, tried, texts, first, makeAt}
@@ -74,14 +75,14 @@ nothing : (m : ℕ) → drop {A = Row} m [] ≡ []
 nothing zero = refl
 nothing (suc m) = refl
 
-single : (m : ℕ) (r : Row) → r .make ≡ reading Rooms → first (drop m (r ∷ [])) ≡ reading Rooms
+single : (m : ℕ) (r : Row) → r .make ≡ reading Bme280 Rooms → first (drop m (r ∷ [])) ≡ reading Bme280 Rooms
 single zero r e = e
 single (suc m) r e = ap first (nothing m)
 
-pub last : (number : ℕ) → 27 ≤ number → makeAt number ≡ reading Rooms
+pub last : (number : ℕ) → 30 ≤ number → makeAt number ≡ reading Bme280 Rooms
 unfolding makeAt commands
 last number h =
-    let e : 27 + (number - 27) ≡ number = omega arith in
+    let e : 30 + (number - 30) ≡ number = omega arith in
     ap (λ (k : ℕ). first (drop k commands)) (sym e)
-    ∙ ap first (sym (drop-drop (number - 27) 27 commands))
-    ∙ single (number - 27) (row "rooms B B B C C C B B B C C C D D D" (reading Rooms)) refl
+    ∙ ap first (sym (drop-drop (number - 30) 30 commands))
+    ∙ single (number - 30) (row "rooms B B B C C C B B B C C C D D D" (reading Bme280 Rooms)) refl

@@ -8,6 +8,7 @@ use Rattle.bench_numbers.specs.Words.{word}
 use Rattle.bench_numbers.specs.Reading as reading
 use Rattle.bus.specs.declared.Bus.the-variants.{I2c, Spi}
 use Rattle.bus.specs.declared.Device.the-variants.{At, Selected}
+use Rattle.kinds.specs.declared.Kind.the-variants.{Bme280, Bmp280}
 use Rattle.machine.specs.declared.Event.the-variants as events
 use Rattle.bench_command.specs.declared.Asked.the-variants.{Nothing, Refused, Question, VisitWrite, Fresh, Event, Ledger}
 use Rattle.bench_command.specs.declared.Sent.{Sent}
@@ -43,12 +44,13 @@ one-reading one two raw t p h = two-readings one two raw t p h 0 0 0 0 0 0 0 0 0
 -- four bytes are lent, and nothing is written after the last byte read
 pub record Lines : Type 0 where
   pub cal : asked (letters "cal 0102 03") (9 ∷ 9 ∷ 9 ∷ 9 ∷ []) ≡ (Question (the.Cal 2 1), 1 ∷ 2 ∷ 3 ∷ 9 ∷ [])
-  pub comp : asked (letters "comp 01 - 02 1 7 256") (9 ∷ 9 ∷ 9 ∷ 9 ∷ []) ≡ (Question (the.Reading Comp (one-reading 1 0 1 1 7 255)), 1 ∷ 2 ∷ 9 ∷ 9 ∷ [])
-  pub point : asked (letters "point - 01 0203 0 8 3") (9 ∷ 9 ∷ 9 ∷ 9 ∷ []) ≡ (Question (the.Reading Point (one-reading 0 1 2 0 8 3)), 1 ∷ 2 ∷ 3 ∷ 9 ∷ [])
-  pub cells : asked (letters "cells 01 02 - 1 2 3") (9 ∷ 9 ∷ 9 ∷ 9 ∷ []) ≡ (Question (the.Reading Cells (one-reading 1 1 0 1 2 3)), 1 ∷ 2 ∷ 9 ∷ 9 ∷ [])
+  pub comp : asked (letters "comp 01 - 02 1 7 256") (9 ∷ 9 ∷ 9 ∷ 9 ∷ []) ≡ (Question (the.Reading Bme280 Comp (one-reading 1 0 1 1 7 255)), 1 ∷ 2 ∷ 9 ∷ 9 ∷ [])
+  pub point : asked (letters "point - 01 0203 0 8 3") (9 ∷ 9 ∷ 9 ∷ 9 ∷ []) ≡ (Question (the.Reading Bme280 Point (one-reading 0 1 2 0 8 3)), 1 ∷ 2 ∷ 3 ∷ 9 ∷ [])
+  pub cells : asked (letters "cells 01 02 - 1 2 3") (9 ∷ 9 ∷ 9 ∷ 9 ∷ []) ≡ (Question (the.Reading Bme280 Cells (one-reading 1 1 0 1 2 3)), 1 ∷ 2 ∷ 9 ∷ 9 ∷ [])
   pub rooms :
       asked (letters "rooms 01 - 02 1 2 3 - 0304 - 4 5 6 7 8 4294967295") (9 ∷ 9 ∷ 9 ∷ 9 ∷ 9 ∷ [])
-      ≡ (Question (the.Reading Rooms (two-readings 1 0 1 1 2 3 0 2 0 4 5 6 7 8 4294967295)), 1 ∷ 2 ∷ 3 ∷ 4 ∷ 9 ∷ [])
+      ≡ (Question (the.Reading Bme280 Rooms (two-readings 1 0 1 1 2 3 0 2 0 4 5 6 7 8 4294967295)), 1 ∷ 2 ∷ 3 ∷ 4 ∷ 9 ∷ [])
+  pub bmp : asked (letters "bmp 01 - 0203 1 7 256") (9 ∷ 9 ∷ 9 ∷ 9 ∷ []) ≡ (Question (the.Reading Bmp280 Comp (one-reading 1 0 2 1 7 255)), 1 ∷ 2 ∷ 3 ∷ 9 ∷ [])
   pub wait : asked (letters "wait max 5 4 3") [] ≡ (Question (the.WaitMaximum 5 4 3), [])
   pub wait-typical : asked (letters "wait typ 1 0 0") [] ≡ (Question (the.WaitTypical 1 0 0), [])
   pub poll : asked (letters "poll 2 080900") (9 ∷ 9 ∷ 9 ∷ 9 ∷ []) ≡ (Question (the.Poll 2 3), 8 ∷ 9 ∷ 0 ∷ 9 ∷ [])
@@ -63,8 +65,10 @@ pub record Lines : Type 0 where
   -- its steps are read later, and there may be none
   pub visit-write : asked (letters "visit write 40 ( x  )") [] ≡ (VisitWrite 40 14, [])
   pub no-steps : asked (letters "visit write 9") [] ≡ (VisitWrite 9 13, [])
-  pub fresh : asked (letters "fresh") [] ≡ (Fresh 0, [])
-  pub fresh-after : asked (letters "fresh 4294967295") [] ≡ (Fresh 4294967295, [])
+  pub fresh : asked (letters "fresh") [] ≡ (Fresh Bme280 0, [])
+  pub fresh-after : asked (letters "fresh 4294967295") [] ≡ (Fresh Bme280 4294967295, [])
+  pub fresh-bmp : asked (letters "fresh bmp") [] ≡ (Fresh Bmp280 0, [])
+  pub fresh-bmp-after : asked (letters "fresh bmp 7") [] ≡ (Fresh Bmp280 7, [])
   pub write : asked (letters "write F4 27") [] ≡ (Event (events.Write 0xF4 0x27), [])
   pub finish : asked (letters "finish 519888 415148 0") [] ≡ (Event (events.Finish 519888 415148 0), [])
   pub close : asked (letters "close 8") [] ≡ (Event (events.Close 8), [])
@@ -81,6 +85,11 @@ pub record Lines : Type 0 where
   pub visit-unknown : asked (letters "visit x 9 (") [] ≡ (Refused UnknownWord, [])
   pub trailing-space : asked (letters "copied ") [] ≡ (Refused WrongNumberOfWords, [])
   pub one-too-many : asked (letters "fresh 1 2") [] ≡ (Refused WrongNumberOfWords, [])
+  pub part-unknown : asked (letters "fresh xyz") [] ≡ (Refused NotANumber, [])
+  pub part-longer : asked (letters "fresh bmp280") [] ≡ (Refused NotANumber, [])
+  pub part-and-number : asked (letters "fresh bmp x") [] ≡ (Refused NotANumber, [])
+  pub part-too-many : asked (letters "fresh bmp 1 2") [] ≡ (Refused WrongNumberOfWords, [])
+  pub part-after-number : asked (letters "fresh 1 bmp") [] ≡ (Refused WrongNumberOfWords, [])
   pub words-before-values : asked (letters "write G4") [] ≡ (Refused WrongNumberOfWords, [])
   pub no-characters : asked (letters "poll  08") [] ≡ (Refused NotANumber, [])
   -- the first of several decides, and what was read before it stays laid
@@ -100,6 +109,7 @@ lines-read =
       point = refl;
       cells = refl;
       rooms = refl;
+      bmp = refl;
       wait = refl;
       wait-typical = refl;
       poll = refl;
@@ -115,6 +125,8 @@ lines-read =
       no-steps = refl;
       fresh = refl;
       fresh-after = refl;
+      fresh-bmp = refl;
+      fresh-bmp-after = refl;
       write = refl;
       finish = refl;
       close = refl;
@@ -130,6 +142,11 @@ lines-read =
       visit-unknown = refl;
       trailing-space = refl;
       one-too-many = refl;
+      part-unknown = refl;
+      part-longer = refl;
+      part-and-number = refl;
+      part-too-many = refl;
+      part-after-number = refl;
       words-before-values = refl;
       no-characters = refl;
       first-decides = refl;

@@ -11,6 +11,8 @@ use Rattle.bench_page.specs.Page.{letters}
 use Rattle.bench_numbers.specs.declared.Reason.the-variants.{UnknownWord, WrongNumberOfWords}
 use Rattle.bus.specs.declared.Bus.the-variants.{I2c, Spi}
 use Rattle.bus.specs.declared.Device.the-variants.{At, Selected}
+use Rattle.kinds.specs.declared.Kind.{Kind}
+use Rattle.kinds.specs.declared.Kind.the-variants.{Bme280, Bmp280}
 use Rattle.machine.specs.declared.Event.the-variants as events
 use Rattle.bench_command.specs.declared.Sent.{Sent}
 use Rattle.bench_command.specs.declared.Shown.{Shown}
@@ -66,13 +68,19 @@ sent n = record {
   humidity = long n 14;
 }
 
-abbrev pub reading : Shown → List ℕ → Asked
-reading shown n = asks.Question (the.Reading shown (sent n))
+abbrev pub reading : Kind → Shown → List ℕ → Asked
+reading kind shown n = asks.Question (the.Reading kind shown (sent n))
+
+-- the fresh state of a kind of part; without a number, which is 0 then, after no conversions
+abbrev pub fresh : Kind → List ℕ → Asked
+fresh kind n = asks.Fresh kind (long n 0)
 
 unfoldable pub commands : List Row
 commands =
-    row "fresh" (λ n. asks.Fresh 0)
-    ∷ row "fresh D" (λ n. asks.Fresh (long n 0))
+    row "fresh" (fresh Bme280)
+    ∷ row "fresh bmp" (fresh Bmp280)
+    ∷ row "fresh D" (fresh Bme280)
+    ∷ row "fresh bmp D" (fresh Bmp280)
     ∷ row "power" (λ n. asks.Event events.Power)
     ∷ row "copied" (λ n. asks.Event events.Copied)
     ∷ row "write P P" (λ n. asks.Event (events.Write (octet n 0) (octet n 1)))
@@ -94,11 +102,12 @@ commands =
     ∷ question "spi read P L" (λ n. the.BusRead Selected (octet n 0) (n at 1))
     ∷ question "visit read B L" (λ n. the.VisitRead (n at 0) (n at 1))
     ∷ question "day B B B L" (λ n. the.Day (n at 0) (n at 1) (n at 2) (n at 3))
+    ∷ row "bmp B B B C C C" (reading Bmp280 Comp)
     ∷ row "visit write LS" (λ n. asks.VisitWrite (n at 0) (n at 1))
-    ∷ row "comp B B B C C C" (reading Comp)
-    ∷ row "point B B B C C C" (reading Point)
-    ∷ row "cells B B B C C C" (reading Cells)
-    ∷ row "rooms B B B C C C B B B C C C D D D" (reading Rooms)
+    ∷ row "comp B B B C C C" (reading Bme280 Comp)
+    ∷ row "point B B B C C C" (reading Bme280 Point)
+    ∷ row "cells B B B C C C" (reading Bme280 Cells)
+    ∷ row "rooms B B B C C C B B B C C C D D D" (reading Bme280 Rooms)
     ∷ []
 
 -- ---- a row beside a line
@@ -157,7 +166,7 @@ texts [] = []
 texts (row ∷ rows) = row .text ∷ texts rows
 
 abbrev pub first : List Row → List ℕ → Asked
-first [] = reading Rooms
+first [] = reading Bme280 Rooms
 first (row ∷ rows) = row .make
 
 unfoldable pub makeAt : ℕ → List ℕ → Asked

@@ -4,6 +4,7 @@ ghost use Rattle.bench_command.specs.Commands as known;
 use bench_numbers::Reason;
 use bus::Bus;
 use bus::Device;
+use kinds::Kind;
 use machine::Event;
 
 mod arguments;
@@ -46,7 +47,8 @@ pub enum Shown {
 pub enum Question {
     // The lengths of the two blocks.
     Cal(usize, usize),
-    Reading(Shown, Sent),
+    // The kind of part, and what is shown.
+    Reading(Kind, Shown, Sent),
     WaitMaximum(u8, u8, u8),
     WaitTypical(u8, u8, u8),
     // The allowance, and the length of the status.
@@ -70,8 +72,8 @@ pub enum Asked {
     Question(Question),
     // The length of the lent buffer, and the place in the line after which its other words are the steps. None of them is read yet.
     VisitWrite(usize, usize),
-    // The number of conversions that came before.
-    Fresh(u32),
+    // The kind of part, and the number of conversions that came before.
+    Fresh(Kind, u32),
     Event(Event),
     Ledger,
 }
@@ -93,7 +95,9 @@ pub fn read(line: &[u8], lent: &mut [u8]) -> Asked
     // The commands, in the order of their numbers: B stands for bytes, C for a code, D for a decimal, L for a buffer's length, P for a pair, and S at the end for any words.
     table::find(
         b"fresh;\
+        fresh bmp;\
         fresh D;\
+        fresh bmp D;\
         power;\
         copied;\
         write P P;\
@@ -115,6 +119,7 @@ pub fn read(line: &[u8], lent: &mut [u8]) -> Asked
         spi read P L;\
         visit read B L;\
         day B B B L;\
+        bmp B B B C C C;\
         visit write LS;\
         comp B B B C C C;\
         point B B B C C C;\

@@ -9,6 +9,7 @@ ghost use Rattle.bench_machine.specs.Outcomes as outcomes;
 ghost use Rattle.bench_machine.specs.Outcomes.{newline};
 use bench_outcome::Said;
 use bench_outcome::Shape;
+use kinds::Kind;
 use machine::Event;
 use machine::Machine;
 use machine::Outcome;
@@ -36,12 +37,12 @@ pub fn ledger(m: Machine, out: &mut [u8], at: usize) -> usize
     write_tally(machine_conversion::tally(m), out, at)
 }
 
-// Gives the fresh machine as after so many conversions, and writes a line that it is done.
-pub fn fresh(n: u32, out: &mut [u8], at: usize) -> Answered
-    ensures { λ r. ⌜ (r .machine, (now (out .exit), r .at)) ≡ outcomes.fresh n (now (out .entry), at) ⌝ }
+// Gives the fresh machine of a kind of part as after so many conversions, and writes a line that it is done.
+pub fn fresh(kind: Kind, n: u32, out: &mut [u8], at: usize) -> Answered
+    ensures { λ r. ⌜ (r .machine, (now (out .exit), r .at)) ≡ outcomes.fresh kind n (now (out .entry), at) ⌝ }
 {
     Answered {
-        machine: machine_start::fresh_after(n),
+        machine: machine_start::fresh_after(kind, n),
         at: write_done(out, at),
     }
 }

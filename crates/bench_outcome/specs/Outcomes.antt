@@ -3,6 +3,7 @@ use Prim.Native.Nat.{ℕ}
 use mathlib.Core.Bool.{Bool, cond}
 use mathlib.Core.List.{List, [], _∷_, _++_}
 use lib.Dec.{eqb}
+use lib.ListN.{take}
 use Rattle.paper.specs.Numbers.{done}
 use Rattle.machine.specs.declared.Tally.{Tally}
 use Rattle.bench_page.specs.Page.{letters}
@@ -35,9 +36,9 @@ burst s =
 abbrev pub closing : Said → List ℕ
 closing s = cond (eqb (s .answer) done) (burst s) (decimal (s .answer))
 
--- the lent buffer afterwards: the eight bytes of a whole close, and otherwise as it was lent
+-- the lent buffer afterwards: the first n bytes of a whole close, and otherwise as it was lent
 abbrev pub left : Said → ℕ → List ℕ
-left s n = cond (s .whole) (s .bytes) (lentOf n)
+left s n = cond (s .whole) (take n (s .bytes)) (lentOf n)
 
 unfoldable pub closed : Said → ℕ → List ℕ
 closed s n = closing s ++ buffer (left s n)

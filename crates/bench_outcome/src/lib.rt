@@ -3,6 +3,7 @@ ghost use mathlib.Core.Path.{_≡_};
 ghost use Rattle.bench_page.specs.Page.{_▹_};
 ghost use Rattle.bench_row.specs.Row.{buffer};
 ghost use Rattle.bench_outcome.specs.Outcomes as text;
+use bench_bytes::front;
 use machine::Tally;
 
 // What an outcome says beside the machine.
@@ -82,13 +83,13 @@ fn write_whole(whole: bool, out: &mut [u8], at: usize) -> usize
     }
 }
 
-// Writes the lent buffer: the eight bytes of a whole close, and otherwise as it was lent.
+// Writes the lent buffer: the first bytes of a whole close, as many as were lent, and otherwise as it was lent.
 fn write_left(said: Said, length: usize, out: &mut [u8], at: usize) -> usize
     ensures { λ r. ⌜ (now (out .exit), r) ≡ (now (out .entry), at) ▹ buffer (text.left said length) ⌝ }
 {
     if said.whole {
         let bytes = said.bytes;
-        return bench_row::write_buffer(&bytes, out, at);
+        return bench_row::write_buffer(front(&bytes, length), out, at);
     }
     let lent = bench_lent::filled();
     let n = bench_lent::within(length);

@@ -2,8 +2,9 @@
 use Prim.Native.Nat.{ℕ}
 use mathlib.Core.List.{List}
 use lib.ListN.{take, drop}
+use Rattle.kinds.specs.declared.Kind.{Kind}
 use Rattle.compensation.specs.declared.Answer.{Answer}
-use Rattle.compensation.specs.Compensation.{compensated}
+use Rattle.compensation_kinds.specs.Kinds.{compensatedBy}
 use Rattle.rooms.specs.declared.Tolerances.{Tolerances}
 use Rattle.rooms.specs.declared.Verdicts.{Verdicts}
 use Rattle.rooms.specs.Points.{cellsOf, pointOf}
@@ -30,28 +31,29 @@ use Rattle.bench_day.specs.Days as days
 abbrev pub cal : ℕ → ℕ → List ℕ → List ℕ
 cal one two bytes = readings.cal (take one bytes) (take two (drop one bytes))
 
--- ---- readings: two blocks and the data; the bytes of a second reading follow those of the first
+-- ---- readings of a kind of part: two blocks and the data; the bytes of a second reading follow those of the first
 
-unfoldable pub answer : ℕ → ℕ → ℕ → ℕ → ℕ → ℕ → List ℕ → Answer
-answer one two raw t p h bytes = compensated (take one bytes) (take two (drop one bytes)) (take raw (drop two (drop one bytes))) t p h
+unfoldable pub answer : Kind → ℕ → ℕ → ℕ → ℕ → ℕ → ℕ → List ℕ → Answer
+answer kind one two raw t p h bytes = compensatedBy kind (take one bytes) (take two (drop one bytes)) (take raw (drop two (drop one bytes))) t p h
 
-abbrev pub first : Sent → List ℕ → Answer
-first s bytes = answer (s .one) (s .two) (s .raw) (s .t) (s .p) (s .h) bytes
+abbrev pub first : Kind → Sent → List ℕ → Answer
+first kind s bytes = answer kind (s .one) (s .two) (s .raw) (s .t) (s .p) (s .h) bytes
 
-abbrev pub second : Sent → List ℕ → Answer
-second s bytes = answer (s .«second_one») (s .«second_two») (s .«second_raw») (s .«second_t») (s .«second_p») (s .«second_h») (drop (s .raw) (drop (s .two) (drop (s .one) bytes)))
+abbrev pub second : Kind → Sent → List ℕ → Answer
+second kind s bytes =
+    answer kind (s .«second_one») (s .«second_two») (s .«second_raw») (s .«second_t») (s .«second_p») (s .«second_h») (drop (s .raw) (drop (s .two) (drop (s .one) bytes)))
 
 abbrev pub tolerances : Sent → Tolerances
 tolerances s = record { temperature = s .temperature; pressure = s .pressure; humidity = s .humidity }
 
-unfoldable pub compared : Answer → Sent → List ℕ → Verdicts
-compared a s bytes = comparedRooms a (second s bytes) (tolerances s)
+unfoldable pub compared : Kind → Answer → Sent → List ℕ → Verdicts
+compared kind a s bytes = comparedRooms a (second kind s bytes) (tolerances s)
 
-unfoldable pub reading : Shown → Sent → List ℕ → List ℕ
-reading Comp s bytes = readings.answered (first s bytes)
-reading Point s bytes = map.point (pointOf (cellsOf (first s bytes)))
-reading Cells s bytes = map.cells (cellsOf (first s bytes))
-reading Rooms s bytes = map.verdicts (compared (first s bytes) s bytes)
+unfoldable pub reading : Kind → Shown → Sent → List ℕ → List ℕ
+reading kind Comp s bytes = readings.answered (first kind s bytes)
+reading kind Point s bytes = map.point (pointOf (cellsOf (first kind s bytes)))
+reading kind Cells s bytes = map.cells (cellsOf (first kind s bytes))
+reading kind Rooms s bytes = map.verdicts (compared kind (first kind s bytes) s bytes)
 
 -- ---- a day: two blocks and its readings
 
@@ -63,7 +65,7 @@ day one two readings room bytes =
 
 abbrev pub replied : Question → List ℕ → List ℕ
 replied (the.Cal one two) bytes = cal one two bytes
-replied (the.Reading shown sent) bytes = reading shown sent bytes
+replied (the.Reading kind shown sent) bytes = reading kind shown sent bytes
 replied (the.WaitMaximum t p h) bytes = times.wait (waited maximum t p h)
 replied (the.WaitTypical t p h) bytes = times.wait (waited typical t p h)
 replied (the.Poll allowance status) bytes = times.poll (polled (take status bytes) allowance)

@@ -9,6 +9,7 @@ use bench_command::Question;
 use bench_command::Sent;
 use bench_command::Shown;
 use compensation::Answer;
+use kinds::Kind;
 use rooms::Tolerances;
 use rooms::Verdicts;
 
@@ -26,7 +27,7 @@ fn write_reply(question: Question, bytes: &[u8], out: &mut [u8], at: usize) -> u
 {
     match question {
         Question::Cal(one, two) => cal(one, two, bytes, out, at),
-        Question::Reading(shown, sent) => reading(shown, sent, bytes, out, at),
+        Question::Reading(kind, shown, sent) => reading(kind, shown, sent, bytes, out, at),
         Question::WaitMaximum(t, p, h) => bench_waiting::wait_maximum(t, p, h, out, at),
         Question::WaitTypical(t, p, h) => bench_waiting::wait_typical(t, p, h, out, at),
         Question::Poll(allowance, status) => bench_waiting::poll(
@@ -91,27 +92,37 @@ fn day(
     )
 }
 
-// What is shown of a reading.
-fn reading(shown: Shown, sent: Sent, bytes: &[u8], out: &mut [u8], at: usize) -> usize
-    ensures { λ r. ⌜ (now (out .exit), r) ≡ (now (out .entry), at) ▹ text.reading shown sent (now (bytes .entry)) ⌝ }
+// What is shown of a reading of a kind of part.
+fn reading(kind: Kind, shown: Shown, sent: Sent, bytes: &[u8], out: &mut [u8], at: usize) -> usize
+    ensures { λ r. ⌜ (now (out .exit), r) ≡ (now (out .entry), at) ▹ text.reading kind shown sent (now (bytes .entry)) ⌝ }
 {
-    let answer = compensate(sent.one, sent.two, sent.raw, sent.t, sent.p, sent.h, bytes);
+    let answer = compensate(
+        kind,
+        sent.one,
+        sent.two,
+        sent.raw,
+        sent.t,
+        sent.p,
+        sent.h,
+        bytes,
+    );
     match shown {
         Shown::Comp => bench_reading::comp(answer, out, at),
         Shown::Point => bench_rooms::point(rooms::make_point(answer), out, at),
         Shown::Cells => bench_rooms::cells(rooms::make_cells(answer), out, at),
-        Shown::Rooms => bench_rooms::verdicts(compare(answer, sent, bytes), out, at),
+        Shown::Rooms => bench_rooms::verdicts(compare(kind, answer, sent, bytes), out, at),
     }
 }
 
-// How a reading compares with the second, whose bytes follow its own.
-fn compare(answer: Answer, sent: Sent, bytes: &[u8]) -> Verdicts
-    ensures { λ r. ⌜ r ≡ text.compared answer sent (now (bytes .entry)) ⌝ }
+// How a reading compares with the second, of the same kind of part, whose bytes follow its own.
+fn compare(kind: Kind, answer: Answer, sent: Sent, bytes: &[u8]) -> Verdicts
+    ensures { λ r. ⌜ r ≡ text.compared kind answer sent (now (bytes .entry)) ⌝ }
 {
     let after = rest(rest(rest(bytes, sent.one), sent.two), sent.raw);
     rooms::compare_rooms(
         answer,
         compensate(
+            kind,
             sent.second_one,
             sent.second_two,
             sent.second_raw,
@@ -129,11 +140,21 @@ fn compare(answer: Answer, sent: Sent, bytes: &[u8]) -> Verdicts
 }
 
 // The reading of two blocks and the data, which are laid one after another, at three codes.
-fn compensate(one: usize, two: usize, raw: usize, t: u8, p: u8, h: u8, bytes: &[u8]) -> Answer
-    ensures { λ r. ⌜ r ≡ text.answer one two raw t p h (now (bytes .entry)) ⌝ }
+fn compensate(
+    kind: Kind,
+    one: usize,
+    two: usize,
+    raw: usize,
+    t: u8,
+    p: u8,
+    h: u8,
+    bytes: &[u8],
+) -> Answer
+    ensures { λ r. ⌜ r ≡ text.answer kind one two raw t p h (now (bytes .entry)) ⌝ }
 {
     let after = rest(bytes, one);
-    compensation::compensate(
+    compensation_kinds::compensate(
+        kind,
         front(bytes, one),
         front(after, two),
         front(rest(after, two), raw),

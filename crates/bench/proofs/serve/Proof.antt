@@ -15,7 +15,9 @@ loop-holds : tie.Need-loop-holds Inv-loop μ-loop
 loop-holds c = (refl, refl, refl)
 
 left-requires : tie.Need-left-requires Inv-loop μ-loop
-left-requires c κs = omega arith
+left-requires c κs =
+    let l = c .before .before .before .before .before .before .before in
+    omega (arith, l .before .before .before .before .before .before .before .before .loop-test .taken)
 
 loop-less : tie.Need-loop-less Inv-loop μ-loop
 loop-less c = omega arith

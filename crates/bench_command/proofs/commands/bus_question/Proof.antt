@@ -29,7 +29,7 @@ returns-5 c = rw (c .if5 .taken)
 
 returns-6 : tie.Need-returns-6
 unfolding commands makeAt
-returns-6 c = let e : _≡_ {A = ℕ} (c .before .before .before .before .before .before .args .row) 20 = omega arith in
+returns-6 c = let e : _≡_ {A = ℕ} (c .before .before .before .before .before .before .args .row) 22 = omega arith in
     rw (e, c .octet4 .ensures)
 
 pub bus-question-spec : {M : Type 1} → statement M

@@ -21,7 +21,7 @@ returns-3 c = rw (c .match .keys3)
 
 returns-4 : tie.Need-returns-4
 unfolding commands makeAt
-returns-4 c = let e : _≡_ {A = ℕ} (c .before .args .row) 9 = omega arith in
+returns-4 c = let e : _≡_ {A = ℕ} (c .before .args .row) 11 = omega arith in
     rw e
 
 pub later-event-spec : {M : Type 1} → statement M

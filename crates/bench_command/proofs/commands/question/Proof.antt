@@ -32,16 +32,21 @@ unfolding commands makeAt
 returns-7 c = rw (c .if7 .taken)
 
 -- past the others stand the rows of readings
-past : (row : ℕ) → 21 ≤ row → (row ≡ 21 → ⊥) → (row ≡ 22 → ⊥) → (row ≡ 23 → ⊥) → 23 < row
-past row h a b d = omega arith
+past : (row : ℕ) → 23 ≤ row → (row ≡ 23 → ⊥) → (row ≡ 24 → ⊥) → (row ≡ 25 → ⊥) → (row ≡ 26 → ⊥) → 26 < row
+past row h a b d e = omega arith
+
+returns-8 : tie.Need-returns-8
+unfolding commands makeAt
+returns-8 c = rw (c .before .if8 .taken, c .sent .ensures)
 
 shown-requires : tie.Need-shown-requires
 shown-requires c κs =
-    let e = c .before .before in
-    past _ (e .if5 .left) (c .before .if6 .left) (c .if7 .left) (e .before .before .before .before .before .pre .1)
+    let d = c .before .before in
+    let e = d .before in
+    past _ (e .if5 .left) (d .if6 .left) (c .before .if7 .left) (c .if8 .left) (e .before .before .before .before .before .pre .1)
 
-returns-8 : tie.Need-returns-8
-returns-8 c = rw (c .before .shown .ensures, c .sent .ensures)
+returns-9 : tie.Need-returns-9
+returns-9 c = rw (c .before .shown .ensures, c .sent2 .ensures)
 
 pub question-spec : {M : Type 1} → statement M
 question-spec =
@@ -77,6 +82,8 @@ question-spec =
     (λ c. search needs)
     (λ c. search needs)
     returns-7
+    (λ c κs. search needs)
+    returns-8
     shown-requires
     (λ c κs. search needs)
-    returns-8)
+    returns-9)

@@ -1,0 +1,2 @@
+-- Why the bench shows what a close leaves.
+pub mod Left
