@@ -31,5 +31,8 @@ void maker_day_of_three(const uint8_t *restrict one, const uint8_t *restrict two
 // One reading from the raw blocks.
 void maker_reading(const uint8_t *restrict one, const uint8_t *restrict two, const uint8_t *restrict data, int64_t *restrict told);
 
+// One reading of a BMP280 from its raw block and six data bytes: temperature and pressure.
+void maker_reading_bmp280(const uint8_t *restrict one, const uint8_t *restrict data, int64_t *restrict told);
+
 // The microseconds that a conversion with these oversampling codes takes at most.
 void maker_wait(uint8_t t, uint8_t p, uint8_t h, uint32_t *microseconds);

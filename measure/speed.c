@@ -1,15 +1,16 @@
 // One side of a measurement, or both held to each other:
-//   speed library|maker blocks|words real|junk ROUNDS    the readings ROUNDS times over
-//   speed compare blocks|words real|junk                 both once: how many channels agree, how many the library refused
-//   speed library cycle ROUNDS                           the machine's forced cycles ROUNDS times over
-//   speed library|maker|three day real|junk ROUNDS       a day's list of readings in one call, ROUNDS times over
-//   speed library|maker|three days real|junk ROUNDS      the same with a hundred days in one list
-//   speed compare day|days real|junk                     both once, as above
-//   speed library|maker wait ROUNDS                      the longest wait at each triple of codes, ROUNDS times over
-//   speed compare wait                                   both once: how many waits agree
+//   speed library|maker blocks|words|six real|junk ROUNDS  the readings ROUNDS times over
+//   speed compare blocks|words|six real|junk               both once: how many channels agree, how many the library refused
+//   speed library cycle ROUNDS                             the machine's forced cycles ROUNDS times over
+//   speed library|maker|three day real|junk ROUNDS         a day's list of readings in one call, ROUNDS times over
+//   speed library|maker|three days real|junk ROUNDS        the same with a hundred days in one list
+//   speed compare day|days real|junk                       both once, as above
+//   speed library|maker wait ROUNDS                        the longest wait at each triple of codes, ROUNDS times over
+//   speed compare wait                                     both once: how many waits agree
 // A round is 1,440 readings, a day with one a minute (of `days` 144,000), or as many cycles, or the 512 triples of codes from 0 to 7. blocks: each reading
 // is a call from the raw blocks, onegrish_compensate beside a function of the C's that decodes too; words: the words are decoded before
-// the first round, and each reading is a call of onegrish_compensate_words beside a turn of the C's loop. day: all readings are one call of
+// the first round, and each reading is a call of onegrish_compensate_words beside a turn of the C's loop. six: a BMP280's readings, each a call from
+// the raw block, onegrish_compensate_bmp280 beside a function of the C's. day: all readings are one call of
 // onegrish_day beside a function of the C's that decodes once; the C stores the eight numbers that the library stores, or as `three` the
 // three values alone. All that a round reads is made before the first, so that the difference of two runs is the rounds' own work.
 #include "maker.h"
@@ -86,6 +87,16 @@ static void library_blocks(void) {
 static void maker_blocks(void) {
     for (size_t i = 0; i < READINGS; i++)
         maker_reading(one[i], two[i], data[i], by_maker + 3 * i);
+}
+
+static void library_six(void) {
+    for (size_t i = 0; i < READINGS; i++)
+        onegrish_compensate_bmp280(one[i], 26, two[i], 0, data[i], 6, 1, 1, 1, numbers[i], 3, values[i], 4);
+}
+
+static void maker_six(void) {
+    for (size_t i = 0; i < READINGS; i++)
+        maker_reading_bmp280(one[i], data[i], by_maker + 3 * i);
 }
 
 static void library_words(void) {
@@ -188,13 +199,13 @@ int main(int argc, char **argv) {
         return 0;
     }
     if (argc < 4) {
-        printf("usage: speed library|maker|compare blocks|words|day|days real|junk [ROUNDS], speed three day|days real|junk [ROUNDS], "
+        printf("usage: speed library|maker|compare blocks|words|six|day|days real|junk [ROUNDS], speed three day|days real|junk [ROUNDS], "
                "speed library|maker wait ROUNDS, speed compare wait\n");
         return 2;
     }
-    int kept = !strcmp(argv[2], "words");
-    void (*library)(void) = kept ? library_words : library_blocks;
-    void (*maker)(void) = kept ? maker_words : maker_blocks;
+    int kept = !strcmp(argv[2], "words"), six = !strcmp(argv[2], "six");
+    void (*library)(void) = kept ? library_words : six ? library_six : library_blocks;
+    void (*maker)(void) = kept ? maker_words : six ? maker_six : maker_blocks;
     if (!strcmp(argv[3], "junk")) make_junk();
     else make_real();
     onegrish_words(one[0], 26, two[0], 7, words, ONEGRISH_WORDS);
