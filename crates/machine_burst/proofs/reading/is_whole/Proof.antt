@@ -13,4 +13,4 @@ is-whole-spec =
     (λ c. search needs)
     (λ c. search needs)
     (λ c. search needs)
-    (λ c. cc))
+    (λ c. rw (c .before .before .b .given .1, c .before .before .before .before .facts .ensures)))
