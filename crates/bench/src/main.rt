@@ -1,4 +1,6 @@
 // The bench: reads commands from standard input, one a line, and writes their answers to standard output.
+#![tactic(auto)]
+
 ghost use Rattle.std.specs.Prelude.{◌<◌};
 
 mod lines; // what a line is answered

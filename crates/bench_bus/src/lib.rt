@@ -1,4 +1,6 @@
 // Bus bytes: i2c, spi.
+#![tactic(auto)]
+
 ghost use Rattle.std.specs.Prelude.{◌≡◌};
 ghost use Rattle.bus.specs.Writing.{encoded_answer, decoded_answer, encoded_write, decoded_write};
 ghost use Rattle.bus.specs.Reading.{encoded_read};

@@ -1,4 +1,6 @@
 // The parts of bytes that stand one after another.
+#![tactic(auto)]
+
 ghost use Rattle.std.specs.Prelude.{◌≡◌, ◌≤◌, length as size, take, drop};
 
 // The first n bytes, or all where there are fewer.

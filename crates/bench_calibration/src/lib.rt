@@ -1,4 +1,6 @@
 // A chip's words, as text.
+#![tactic(auto)]
+
 ghost use Rattle.std.specs.Prelude.{◌≡◌};
 ghost use Rattle.bench_page.specs.Page.{◌▹◌};
 ghost use Rattle.bench_calibration.specs.Words as text;

@@ -1,4 +1,6 @@
 // A line read, once, into the command that it asks for and the command's values.
+#![tactic(auto)]
+
 ghost use Rattle.std.specs.Prelude.{◌≡◌};
 ghost use Rattle.bench_command.specs.Commands as known;
 

@@ -1,4 +1,6 @@
 // The buffers that the bench lends: of the length that a line asks for, filled with AA.
+#![tactic(auto)]
+
 ghost use Rattle.std.specs.Prelude.{◌≡◌, ◌≤◌, length as size};
 ghost use Rattle.bench_lent.specs.Lent as lent;
 

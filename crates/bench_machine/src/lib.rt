@@ -1,4 +1,6 @@
 // The machine's answers: fresh, the eight events, ledger.
+#![tactic(auto)]
+
 ghost use Rattle.std.specs.Prelude.{◌≡◌};
 ghost use Rattle.paper.specs.Numbers.{done};
 ghost use Rattle.bench_page.specs.Page.{◌▹◌};

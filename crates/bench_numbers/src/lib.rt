@@ -1,4 +1,6 @@
 // Arguments of a line read: what the word at a place of the line stands for, as a number or as bytes.
+#![tactic(auto)]
+
 ghost use Rattle.std.specs.Prelude.{◌≡◌};
 ghost use Rattle.bench_numbers.specs.Reading as reading;
 

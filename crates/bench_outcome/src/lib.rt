@@ -1,4 +1,6 @@
 // What an event hands back, as text.
+#![tactic(auto)]
+
 ghost use Rattle.std.specs.Prelude.{◌≡◌};
 ghost use Rattle.bench_page.specs.Page.{◌▹◌};
 ghost use Rattle.bench_row.specs.Row.{buffer};

@@ -1,4 +1,6 @@
 // A page and what is written on it: single bytes, texts, and numbers as digits.
+#![tactic(auto)]
+
 ghost use Rattle.std.specs.Prelude.{◌≡◌, nat_abs};
 ghost use Rattle.bench_page.specs.Page.{◌▹◌, written_byte};
 ghost use Rattle.bench_page.specs.Digits as spelt;

@@ -1,4 +1,6 @@
 // Pieces of an answer on a page.
+#![tactic(auto)]
+
 ghost use Rattle.std.specs.Prelude.{◌≡◌};
 ghost use Rattle.bench_phrases.specs.Phrases as phrases;
 

@@ -1,4 +1,6 @@
 // What a question is answered: each room's answer, with the bytes of the question's words.
+#![tactic(auto)]
+
 ghost use Rattle.std.specs.Prelude.{◌≡◌};
 ghost use Rattle.bench_page.specs.Page.{◌▹◌};
 ghost use Rattle.bench_phrases.specs.Phrases.{ended};

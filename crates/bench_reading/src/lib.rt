@@ -1,4 +1,6 @@
 // What a chip's bytes say: the words of its blocks, and a reading.
+#![tactic(auto)]
+
 ghost use Rattle.std.specs.Prelude.{◌≡◌, [], ◌∷◌};
 ghost use Rattle.bench_page.specs.Page.{◌▹◌};
 ghost use Rattle.bench_reading.specs.Reading as text;

@@ -1,4 +1,6 @@
 // What the map room is given, as text: a map point, a reading's cells, and two rooms compared.
+#![tactic(auto)]
+
 ghost use Rattle.std.specs.Prelude.{◌≡◌};
 ghost use Rattle.std.specs.Float.{binary64};
 ghost use Rattle.std.specs.Float.Ieee.{to_bits};

@@ -1,4 +1,6 @@
 // A row: a form, which is a text with a mark for each number, and the numbers that it is filled with.
+#![tactic(auto)]
+
 ghost use Rattle.std.specs.Prelude.{◌≡◌, ◌+◌, ◌≤◌, ◌<◌, pos, get_or};
 ghost use Rattle.bench_page.specs.Page.{◌▹◌};
 ghost use Rattle.bench_row.specs.Row as row;

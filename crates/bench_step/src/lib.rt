@@ -1,4 +1,6 @@
 // A step of a visit and its word in a line, both ways: `(` opens a group, `)` closes one, and TIME:T:P:H is a slot.
+#![tactic(auto)]
+
 ghost use Rattle.std.specs.Prelude.{◌≡◌};
 ghost use Rattle.bench_page.specs.Page.{◌▹◌};
 ghost use Rattle.bench_step.specs.Reading as reading;

@@ -1,4 +1,6 @@
 // Visit records: visit read, visit write.
+#![tactic(auto)]
+
 ghost use Rattle.std.specs.Prelude.{◌≡◌, ◌≤◌, length as size};
 ghost use Rattle.visit.specs.Lent.{read_into, write_into};
 ghost use Rattle.visit_read.specs.Answers.{read_answer};

@@ -1,4 +1,6 @@
 // Waiting times and polls: wait, poll.
+#![tactic(auto)]
+
 ghost use Rattle.std.specs.Prelude.{◌≡◌};
 ghost use Rattle.bench_page.specs.Page.{◌▹◌};
 ghost use Rattle.waiting.specs.Waiting.{maximum, typical, waited, wait_answer};

@@ -1,4 +1,6 @@
 // Bus bytes: writes and reads as the byte sequences of I2C and SPI.
+#![tactic(auto)]
+
 ghost use Rattle.std.specs.Prelude.{◌≡◌};
 ghost use Rattle.bus.specs.Writing.{encoded_write, encoded_answer, decoded_write, decoded_answer};
 ghost use Rattle.bus.specs.Reading.{encoded_read};

@@ -1,4 +1,6 @@
 // Compensation: what a logger's eight data bytes say of the air, channel by channel, or which number stands in a channel's place.
+#![tactic(auto)]
+
 ghost use Rattle.std.specs.Prelude.{◌≡◌};
 ghost use Rattle.compensation.specs.Compensation as comp;
 

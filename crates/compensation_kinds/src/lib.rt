@@ -1,4 +1,6 @@
 // Compensation by the kind of part: its lengths, and whether it has humidity, are those of the table of chip facts.
+#![tactic(auto)]
+
 ghost use Rattle.std.specs.Prelude.{◌≡◌};
 ghost use Rattle.compensation.specs.Compensation.{reading_answer};
 ghost use Rattle.compensation_kinds.specs.Kinds.{compensated_by};

@@ -1,4 +1,6 @@
 // One layout of the eight data bytes, both ways: the counts of the three channels are taken out of them, and laid out in them.
+#![tactic(auto)]
+
 ghost use Rattle.std.specs.Prelude.{◌≡◌, [], ◌∷◌};
 ghost use Rattle.data.specs.Counts as counted;
 

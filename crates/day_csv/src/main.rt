@@ -1,5 +1,7 @@
 // Shows a logger's file as comma-separated values: reads it from standard input, and writes them to standard output.
 
+#![tactic(auto)]
+
 fn main() {
     day_file::show(true);
 }

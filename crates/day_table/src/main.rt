@@ -1,5 +1,7 @@
 // Shows a logger's file as a table: reads it from standard input, and writes it to standard output.
 
+#![tactic(auto)]
+
 fn main() {
     day_file::show(false);
 }

@@ -1,5 +1,7 @@
 // What the maker's three formulas share: their answers, what their plain roads give, the numbers that they are given, their first step,
 // and the guard of the plain roads on the fine temperature.
+#![tactic(auto)]
+
 ghost use Rattle.std.specs.Prelude.{◌≡◌, pos, true};
 ghost use Rattle.steps.specs.Work.{run, given, num, ◌-◌};
 ghost use Rattle.formula.specs.Plain.{is_usual, channel_plainly, temperature_plainly};

@@ -1,6 +1,8 @@
 // The maker's formula of the pressure, by two roads with one promise. On the checked road every step is tested, each line of the
 // maker's a function with the line's definition as its promise. On the plain road the same lines are worked out with no
 // test, where a guard on what comes in proves that no step can leave its type. Real air takes the plain road.
+#![tactic(auto)]
+
 ghost use Rattle.std.specs.Prelude.{◌≡◌};
 ghost use Rattle.formula.specs.Answers.{channel_answer};
 ghost use Rattle.formula.specs.Plain.{channel_plainly};

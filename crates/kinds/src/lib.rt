@@ -1,4 +1,6 @@
 // The kinds of part, and what each has of its own: one table of chip facts.
+#![tactic(auto)]
+
 ghost use Rattle.std.specs.Prelude.{◌≡◌};
 ghost use Rattle.kinds.specs.Chips as chips;
 

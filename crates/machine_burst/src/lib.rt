@@ -1,4 +1,6 @@
 // The three events of a burst: open, byte and close.
+#![tactic(auto)]
+
 ghost use Rattle.std.specs.Prelude.{◌≡◌, ◌≤◌, length, take};
 ghost use Rattle.paper.specs.Registers as reg;
 ghost use Rattle.machine.specs.Events as ev;

@@ -1,4 +1,6 @@
 // F4 takes effect, as it is written or once the conversion that held it off has finished.
+#![tactic(auto)]
+
 ghost use Rattle.std.specs.Prelude.{◌≡◌};
 ghost use Rattle.machine.specs.Control as control;
 

@@ -1,5 +1,7 @@
 // What becomes of a finished conversion: it is shown or waits, is delivered, or is overwritten by the next; and the tally of
 // them all.
+#![tactic(auto)]
+
 ghost use Rattle.std.specs.Prelude.{◌≡◌};
 ghost use Rattle.machine.specs.State as state;
 ghost use Rattle.machine.specs.Counts as counts;

@@ -1,4 +1,6 @@
 // The counts, each of which stops at the largest number of conversions.
+#![tactic(auto)]
+
 ghost use Rattle.std.specs.Prelude.{◌≡◌, ◌-◌};
 ghost use Rattle.machine.specs.Counts as counts;
 

@@ -1,4 +1,6 @@
 // The device's own two events: finish and wake.
+#![tactic(auto)]
+
 ghost use Rattle.std.specs.Prelude.{◌≡◌};
 ghost use Rattle.machine.specs.Events as ev;
 

@@ -1,4 +1,6 @@
 // The register at an address, as a burst gives it.
+#![tactic(auto)]
+
 ghost use Rattle.std.specs.Prelude.{◌≡◌, cond};
 ghost use Rattle.machine.specs.Data as bytes;
 

@@ -1,4 +1,6 @@
 // The fresh states, reset, and the events power and copied.
+#![tactic(auto)]
+
 ghost use Rattle.std.specs.Prelude.{◌≡◌};
 ghost use Rattle.machine.specs.State as state;
 ghost use Rattle.machine.specs.Events as ev;

@@ -1,4 +1,6 @@
 // What is asked of a state, one field of an enum type changed, no conversion, and an event's answer.
+#![tactic(auto)]
+
 ghost use Rattle.std.specs.Prelude.{◌≡◌};
 ghost use Rattle.machine.specs.Control as control;
 ghost use Rattle.machine.specs.Events as ev;

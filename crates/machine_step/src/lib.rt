@@ -1,4 +1,6 @@
 // One step of the machine by any of the eight events.
+#![tactic(auto)]
+
 ghost use Rattle.std.specs.Prelude.{◌≡◌};
 ghost use Rattle.machine.specs.Event as event;
 

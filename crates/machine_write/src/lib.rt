@@ -1,4 +1,6 @@
 // The event write: a value is written to a register.
+#![tactic(auto)]
+
 ghost use Rattle.std.specs.Prelude.{◌≡◌};
 ghost use Rattle.machine.specs.Events as ev;
 

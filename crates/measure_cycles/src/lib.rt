@@ -1,4 +1,6 @@
 // For the measurements of measure/speed alone: the forced cycles of a BME280's machine in the loop that is counted.
+#![tactic(auto)]
+
 ghost use Rattle.std.specs.Prelude.{◌≡◌};
 ghost use Rattle.kinds.specs.declared.Kind.TheVariants.{Bme280};
 ghost use Rattle.machine.specs.State.{fresh};

@@ -1,5 +1,7 @@
 // The library for C: numbers and lent slices alone. include/onegrish.h declares these functions.
 // Each answers the paper's number, and nothing is written but on 0.
+#![tactic(auto)]
+
 ghost use Rattle.std.specs.Prelude.{◌≡◌};
 ghost use Rattle.compensation.specs.Compensation.{compensated};
 ghost use Rattle.waiting.specs.Waiting.{maximum, typical, waited};

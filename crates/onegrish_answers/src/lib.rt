@@ -1,4 +1,6 @@
 // What the library hands to C, laid in lent places: each function answers the paper's number, and writes on 0 alone.
+#![tactic(auto)]
+
 ghost use Rattle.std.specs.Prelude.{◌≡◌};
 ghost use Rattle.onegrish_answers.specs.Version as interface;
 

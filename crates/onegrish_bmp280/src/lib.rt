@@ -1,4 +1,6 @@
 // The library for C, for a BMP280: one reading, by the same steps and in the same lent places as a BME280's.
+#![tactic(auto)]
+
 ghost use Rattle.std.specs.Prelude.{◌≡◌};
 ghost use Rattle.kinds.specs.declared.Kind.TheVariants.{Bmp280};
 ghost use Rattle.compensation_kinds.specs.Kinds.{compensated_by};

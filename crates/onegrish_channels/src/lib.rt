@@ -1,4 +1,6 @@
 // A reading laid in lent slices: the paper's number, and the channels on 0 alone.
+#![tactic(auto)]
+
 ghost use Rattle.std.specs.Prelude.{◌≡◌, ◌≤◌, ◌<◌, length};
 ghost use Rattle.onegrish_channels.specs.Channels as into;
 

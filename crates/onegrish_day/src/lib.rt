@@ -1,4 +1,6 @@
 // The library for C, for a day of a logger: readings as flat bytes, and their answers as flat numbers.
+#![tactic(auto)]
+
 ghost use Rattle.std.specs.Prelude.{◌≡◌};
 ghost use Rattle.day.specs.Day as of;
 

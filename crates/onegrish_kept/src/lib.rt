@@ -1,4 +1,6 @@
 // The chip's words out of 18 numbers of 16 bits that a caller kept, T1 to T3, P1 to P9, H1 to H6. They are written there by `onegrish_laid`.
+#![tactic(auto)]
+
 ghost use Rattle.std.specs.Prelude.{◌≡◌, true, ◌<◌, length};
 ghost use Rattle.calibration.specs.Calibration.{calibration_answer};
 ghost use Rattle.onegrish_kept.specs.Words as kept;

@@ -1,4 +1,6 @@
 // The chip's words into a lent slice, as 18 numbers of 16 bits, T1 to T3, P1 to P9, H1 to H6. They are read again by `onegrish_kept`.
+#![tactic(auto)]
+
 ghost use Rattle.std.specs.Prelude.{◌≡◌, [], ◌∷◌, ◌+◌, ◌≤◌, ◌<◌, length};
 ghost use Rattle.calibration.specs.Calibration.{signed};
 ghost use Rattle.calibration.specs.declared.Calibration.TheVariants.{Known};

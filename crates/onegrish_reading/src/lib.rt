@@ -1,4 +1,6 @@
 // A reading handed to C: the paper's number, and the channels in lent slices, which are written on 0 alone.
+#![tactic(auto)]
+
 ghost use Rattle.std.specs.Prelude.{◌≡◌};
 ghost use Rattle.compensation.specs.Compensation.{compensated_with};
 ghost use Rattle.onegrish_channels.specs.Channels.{reading_into};

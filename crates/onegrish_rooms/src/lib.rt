@@ -1,5 +1,7 @@
 // The library for C, for a map of rooms: a reading's map point in lent doubles and flags, and two rooms compared.
 // Each function but onegrish_compare answers the paper's number, and nothing is written but on 0.
+#![tactic(auto)]
+
 ghost use Rattle.std.specs.Prelude.{◌≡◌};
 ghost use Rattle.compensation.specs.Compensation.{compensated};
 ghost use Rattle.rooms.specs.Compared.{compared_channels, compared_rooms};

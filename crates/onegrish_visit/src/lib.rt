@@ -1,5 +1,7 @@
 // The library for C, for visit records: a record read into a lent list of steps, and such a list written as a record.
 // Both answer the paper's number, and nothing is written but on 0. Of a refusal two calls more give the offset or the step's place.
+#![tactic(auto)]
+
 ghost use Rattle.std.specs.Prelude.{◌≡◌};
 ghost use Rattle.visit.specs.Lent.{read_into, write_into};
 ghost use Rattle.onegrish_visit.specs.Handed.{counted_into, offset_of, place_of};

@@ -1,5 +1,7 @@
 // The library for C, for a caller who keeps a chip's words: they are read once, and readings are compensated with them.
 // It stands apart from the crate onegrish because the compiler puts the formulas whole into a call only where no other call has them.
+#![tactic(auto)]
+
 ghost use Rattle.std.specs.Prelude.{◌≡◌};
 ghost use Rattle.calibration.specs.Calibration.{calibrated};
 ghost use Rattle.onegrish_laid.specs.Written.{words_into};

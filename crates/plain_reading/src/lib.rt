@@ -1,4 +1,6 @@
 // A whole reading by the plain roads of its three channels, where all are enabled and every road is taken. Real air is read so.
+#![tactic(auto)]
+
 ghost use Rattle.std.specs.Prelude.{◌≡◌};
 ghost use Rattle.plain_reading.specs.Plain as plain;
 

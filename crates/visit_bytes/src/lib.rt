@@ -1,4 +1,6 @@
 // The bytes that a step adds to a record: how many they are, and how they are laid down before those of the steps after it.
+#![tactic(auto)]
+
 ghost use Rattle.std.specs.Prelude.{◌≡◌, ◌+◌, ◌≤◌, length};
 ghost use Rattle.visit_bytes.specs.Bytes as adds;
 ghost use Rattle.visit_bytes.specs.Laid.{over, laid_back};

@@ -1,4 +1,6 @@
 // The writer's checks, one step at a time: whether a step can stand where the list has come to, and where the list stands after it.
+#![tactic(auto)]
+
 ghost use Rattle.std.specs.Prelude.{◌≡◌};
 ghost use Rattle.visit.specs.Writer as writer;
 

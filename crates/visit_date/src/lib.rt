@@ -1,4 +1,6 @@
 // Dates: the year, month, day and time of day of a number of seconds since 1970 began, in UTC.
+#![tactic(auto)]
+
 ghost use Rattle.std.specs.Prelude.{◌≡◌};
 ghost use Rattle.visit_date.specs.Dates as dates;
 

@@ -1,4 +1,6 @@
 // The front of a field of a visit record: a group with its body still unread, or an answer.
+#![tactic(auto)]
+
 ghost use Rattle.std.specs.Prelude.{◌≡◌, ◌&&◌, ◌+◌, ◌≤◌, leb, length};
 ghost use Rattle.visit_field.specs.Front.{whole_at, front_at};
 

@@ -1,4 +1,6 @@
 // Values as text: temperatures, pressures and humidities, each exactly, with its unit or without, and missing answers with their reasons.
+#![tactic(auto)]
+
 ghost use Rattle.std.specs.Prelude.{◌≡◌, ◌<◌};
 ghost use Rattle.bench_page.specs.Page.{◌▹◌};
 ghost use Rattle.visit_figures.specs.Figures as text;

@@ -1,4 +1,6 @@
 // Standard input, read whole.
+#![tactic(auto)]
+
 ghost use Rattle.std.specs.Prelude.{◌≤◌, length as size};
 ghost use Rattle.visit_input.specs.Input.{Within, Fits};
 

@@ -1,4 +1,6 @@
 // Packs a visit: reads its text from standard input, and writes its record to standard output.
+#![tactic(auto)]
+
 mod faults; // what is said of a bad line
 mod fields; // lines with a value
 mod groups; // lines with a group's name

@@ -1,4 +1,6 @@
 // Where a walk over the steps of a visit stands: which groups are open, and the number of each among its brothers.
+#![tactic(auto)]
+
 ghost use Rattle.std.specs.Prelude.{◌≡◌};
 ghost use Rattle.visit_place.specs.Places as places;
 

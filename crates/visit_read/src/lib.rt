@@ -1,4 +1,6 @@
 // The reader of visit records: the steps of a record in a lent list, eight words a step.
+#![tactic(auto)]
+
 ghost use Rattle.std.specs.Prelude.{◌≡◌};
 ghost use Rattle.visit.specs.Lent.{read_into};
 ghost use Rattle.visit_read.specs.Answers.{read_answer, Tells};

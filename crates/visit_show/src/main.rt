@@ -1,4 +1,6 @@
 // Shows a visit record: reads it from standard input, and writes it as text to standard output.
+#![tactic(auto)]
+
 mod refusals; // what is said of a record that is refused
 
 use bench_bytes::front;

@@ -1,4 +1,6 @@
 // A step of a visit and its eight words in a lent list, both ways.
+#![tactic(auto)]
+
 ghost use Rattle.std.specs.Prelude.{◌≡◌};
 ghost use Rattle.visit.specs.Words.{words as words_in};
 ghost use Rattle.visit_step.specs.Places.{step_at, laid};

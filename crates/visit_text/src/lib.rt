@@ -1,4 +1,6 @@
 // A visit as text: a line for each group with its name and number, and four lines for each slot.
+#![tactic(auto)]
+
 ghost use Rattle.std.specs.Prelude.{◌≡◌};
 ghost use Rattle.bench_page.specs.Page.{◌▹◌};
 ghost use Rattle.visit_text.specs.Text as text;

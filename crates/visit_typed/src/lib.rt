@@ -1,4 +1,6 @@
 // Values read from what a person typed: a time, a temperature, a pressure or a humidity, or that it is missing.
+#![tactic(auto)]
+
 ghost use Rattle.std.specs.Prelude.{◌≡◌};
 ghost use Rattle.visit_typed.specs.Same as texts;
 ghost use Rattle.visit_typed.specs.Typed as typed;

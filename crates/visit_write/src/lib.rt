@@ -1,4 +1,6 @@
 // The writer of visit records: a lent list of steps is checked, its bytes are counted, and they are laid down from the last step back.
+#![tactic(auto)]
+
 ghost use Rattle.std.specs.Prelude.{◌≡◌};
 ghost use Rattle.visit.specs.declared.Stage.TheVariants as stage;
 ghost use Rattle.visit.specs.Words.{from_words};

@@ -1,4 +1,6 @@
 // Waiting for a conversion: how long it takes, and polling its status.
+#![tactic(auto)]
+
 ghost use Rattle.std.specs.Prelude.{◌≡◌};
 ghost use Rattle.waiting.specs.Waiting.{figures, waited, wait_answer};
 ghost use Rattle.waiting.specs.Polling.{polled, poll_answer};

@@ -32,8 +32,8 @@ loop-again c = tt
 returns-2 : tie.Need-returns-2 invariant-loop decreases-loop
 returns-2 c = tt
 
-pub newline-spec : {M : Type 1} → statement M
-newline-spec =
+pub newline_spec : {M : Type 1} → statement M
+newline_spec =
     tie.close
     (tie.spec
     invariant-loop

@@ -38,8 +38,8 @@ same-length-2 c = omega arith
 same-length-3 : tie.Need-same-length-3 invariant-loop decreases-loop
 same-length-3 c = omega arith
 
-pub serve-spec : {M : Type 1} → statement M
-serve-spec =
+pub serve_spec : {M : Type 1} → statement M
+serve_spec =
     tie.close
     (tie.spec
     invariant-loop

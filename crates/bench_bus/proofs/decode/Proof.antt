@@ -18,8 +18,8 @@ returns c =
     let n = e.before.before in
     rw (c.before.before.write-decoded.ensures, (left e).front, e.decode-write.ensures, n.within.ensures.0, n.before.filled.ensures.0)
 
-pub decode-spec : {M : Type 1} → statement M
-decode-spec = tie.close (tie.spec (λ c κs. tt) (λ c κs. tt)
+pub decode_spec : {M : Type 1} → statement M
+decode_spec = tie.close (tie.spec (λ c κs. tt) (λ c κs. tt)
     (λ c. within-whole _ c.before.filled.result c.within.ensures.1 c.before.filled.ensures.1)
     (λ c. lent_length _ c.before.before.filled.result c.before.within.ensures.1 c.before.before.filled.ensures.1)
     (λ c κs. tt) (λ c. (left c.before).within) (λ c. (left c.before.before).long) (λ c κs. tt) (λ c. search rules) returns)

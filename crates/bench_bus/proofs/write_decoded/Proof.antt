@@ -9,5 +9,5 @@ returns : tie.Need-returns
 unfolding message
 returns c = joined _ _ _ c.before.before.before.before.before.before.write-found.ensures c.before.before.write-buffer.ensures
 
-pub write-decoded-spec : {M : Type 1} → statement M
-write-decoded-spec = tie.close (tie.spec (λ c κs. tt) (λ c κs. tt) (λ c. search rules) returns)
+pub write_decoded_spec : {M : Type 1} → statement M
+write_decoded_spec = tie.close (tie.spec (λ c κs. tt) (λ c κs. tt) (λ c. search rules) returns)

@@ -10,8 +10,8 @@ returns c = rw (c.before.before.before.before.before.before.before.device.given.
 returns-2 : tie.Need-returns-2
 returns-2 c = rw (c.before.before.before.before.before.before.enum_told.given.1, c.before.before.fill2.ensures)
 
-pub write-device-spec : {M : Type 1} → statement M
-write-device-spec =
+pub write_device_spec : {M : Type 1} → statement M
+write_device_spec =
     tie.close
     (tie.spec
     (λ c. search rules)

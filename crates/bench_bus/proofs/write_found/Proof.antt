@@ -23,5 +23,5 @@ returns c =
 returns-2 : tie.Need-returns-2
 returns-2 c = rw (c.before.before.before.before.before.decoded2.given.1, c.before.before.write-decimal.ensures)
 
-pub write-found-spec : {M : Type 1} → statement M
-write-found-spec = tie.close (tie.spec (λ c. search rules) (λ c κs. tt) (λ c. search rules) (λ c. search rules) (λ c κs. tt) (λ c. search rules) returns (λ c. search rules) returns-2)
+pub write_found_spec : {M : Type 1} → statement M
+write_found_spec = tie.close (tie.spec (λ c. search rules) (λ c κs. tt) (λ c. search rules) (λ c. search rules) (λ c κs. tt) (λ c. search rules) returns (λ c. search rules) returns-2)

@@ -5,5 +5,5 @@ use borrow.Author.Rules.{rules}
 use Rattle.bench_bytes.proofs.front.Statement.{statement}
 use Rattle.bench_bytes.proofs.front.Tie as tie
 
-pub front-spec : {M : Type 1} → statement M
-front-spec = tie.close (tie.spec (λ c κs. tt) (λ c. sym (length-take-le _ _ c.before.cut.ensures.0)) (λ c. search rules))
+pub front_spec : {M : Type 1} → statement M
+front_spec = tie.close (tie.spec (λ c κs. tt) (λ c. sym (length-take-le _ _ c.before.cut.ensures.0)) (λ c. search rules))

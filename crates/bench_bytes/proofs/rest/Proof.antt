@@ -15,5 +15,5 @@ whole n s = take_all (length s - n) (drop n s) (rw (length-drop n s) (omega arit
 returns : tie.Need-returns
 returns c = whole c.before.cut.result c.before.before.before.args.bytes.now ∙ c.before.cut.ensures.2
 
-pub rest-spec : {M : Type 1} → statement M
-rest-spec = tie.close (tie.spec (λ c κs. tt) (λ c. search rules) (λ c. search rules) (λ c. search rules) returns)
+pub rest_spec : {M : Type 1} → statement M
+rest_spec = tie.close (tie.spec (λ c κs. tt) (λ c. search rules) (λ c. search rules) (λ c. search rules) returns)

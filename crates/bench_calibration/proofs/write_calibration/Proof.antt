@@ -12,5 +12,5 @@ returns-2 : tie.Need-returns-2
 unfolding calibration
 returns-2 c = rw (c.before.before.before.before.before.known2.given.1, c.before.before.write-words.ensures)
 
-pub write-calibration-spec : {M : Type 1} → statement M
-write-calibration-spec = tie.close (tie.spec (λ c. search rules) (λ c. search rules) (λ c κs. tt) (λ c. search rules) (λ c κs. tt) (λ c. search rules) returns (λ c. search rules) returns-2)
+pub write_calibration_spec : {M : Type 1} → statement M
+write_calibration_spec = tie.close (tie.spec (λ c. search rules) (λ c. search rules) (λ c κs. tt) (λ c. search rules) (λ c κs. tt) (λ c. search rules) returns (λ c. search rules) returns-2)

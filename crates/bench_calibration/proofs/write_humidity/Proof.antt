@@ -32,8 +32,8 @@ returns c =
     let s = d.before.before.before.before.before.before.before.before.before in
     rw (c.before.before.fill-signed.ensures, h1 s, h2 s, h3 s, h4 s, h5 s, h6 s)
 
-pub write-humidity-spec : {M : Type 1} → statement M
-write-humidity-spec =
+pub write_humidity_spec : {M : Type 1} → statement M
+write_humidity_spec =
     tie.close
     (tie.spec
     (λ c. refl)

@@ -42,8 +42,8 @@ returns c =
     let s = e.before.before.before.before.before.before.before.before in
     rw (c.before.before.fill-signed.ensures, p1 s, p2 s, p3 s, p4 s, p5 s, p6 s, p7 s, p8 s, p9 s)
 
-pub write-pressure-spec : {M : Type 1} → statement M
-write-pressure-spec =
+pub write_pressure_spec : {M : Type 1} → statement M
+write_pressure_spec =
     tie.close
     (tie.spec
     (λ c. refl)

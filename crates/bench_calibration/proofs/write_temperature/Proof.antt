@@ -23,8 +23,8 @@ returns c =
     let s = d.before.before.before.before in
     rw (c.before.before.fill-signed.ensures, t1 s, t2 s, t3 s)
 
-pub write-temperature-spec : {M : Type 1} → statement M
-write-temperature-spec =
+pub write_temperature_spec : {M : Type 1} → statement M
+write_temperature_spec =
     tie.close
     (tie.spec
     (λ c. refl)

@@ -12,5 +12,5 @@ returns c =
     joined _ _ _ p.before.before.before.before.write-temperature.ensures
     (joined _ _ _ p.write-pressure.ensures c.before.before.write-humidity.ensures)
 
-pub write-words-spec : {M : Type 1} → statement M
-write-words-spec = tie.close (tie.spec (λ c κs. tt) (λ c κs. tt) (λ c κs. tt) (λ c. search rules) returns)
+pub write_words_spec : {M : Type 1} → statement M
+write_words_spec = tie.close (tie.spec (λ c κs. tt) (λ c κs. tt) (λ c κs. tt) (λ c. search rules) returns)

@@ -8,5 +8,5 @@ returns : tie.Need-returns
 unfolding filled
 returns c = (refl, refl)
 
-pub filled-spec : {M : Type 1} → statement M
-filled-spec = tie.close (tie.spec returns)
+pub filled_spec : {M : Type 1} → statement M
+filled_spec = tie.close (tie.spec returns)

@@ -11,5 +11,5 @@ returns c =
     let d = s.before.before in
     rw (c.with.ensures.0, c.with.ensures.1, s.write-said.ensures, d.shape_of.ensures, d.before.said-by.ensures, d.before.before.step.ensures)
 
-pub event-spec : {M : Type 1} → statement M
-event-spec = tie.close (tie.spec (λ c κs. tt) (λ c κs. tt) (λ c κs. tt) (λ c κs. tt) (λ c κs. tt) (λ c. search rules) returns)
+pub event_spec : {M : Type 1} → statement M
+event_spec = tie.close (tie.spec (λ c κs. tt) (λ c κs. tt) (λ c κs. tt) (λ c κs. tt) (λ c κs. tt) (λ c. search rules) returns)

@@ -8,5 +8,5 @@ returns : tie.Need-returns
 unfolding fresh
 returns c = rw (c.before.before.before.before.fresh-after.ensures, c.before.before.write_done.ensures)
 
-pub fresh-spec : {M : Type 1} → statement M
-fresh-spec = tie.close (tie.spec (λ c κs. tt) (λ c κs. tt) (λ c. search rules) returns)
+pub fresh_spec : {M : Type 1} → statement M
+fresh_spec = tie.close (tie.spec (λ c κs. tt) (λ c κs. tt) (λ c. search rules) returns)

@@ -10,5 +10,5 @@ slice-aggregate-write-text c = refl
 returns : tie.Need-returns
 returns c = rw (c.before.before.write-text.ensures, c.before.before.before.before.before.before.before.write-said.ensures)
 
-pub write-said-spec : {M : Type 1} → statement M
-write-said-spec = tie.close (tie.spec (λ c κs. tt) slice-aggregate-write-text (λ c κs. tt) (λ c. search rules) returns)
+pub write_said_spec : {M : Type 1} → statement M
+write_said_spec = tie.close (tie.spec (λ c κs. tt) slice-aggregate-write-text (λ c κs. tt) (λ c. search rules) returns)

@@ -8,5 +8,5 @@ returns : tie.Need-returns
 unfolding number_of
 returns c = rw (c.value.ensures, c.before.read-decimal.ensures)
 
-pub decimal-spec : {M : Type 1} → statement M
-decimal-spec = tie.close (tie.spec (λ c κs. search rules) (λ c κs. search rules) returns)
+pub decimal_spec : {M : Type 1} → statement M
+decimal_spec = tie.close (tie.spec (λ c κs. search rules) (λ c κs. search rules) returns)

@@ -16,8 +16,8 @@ returns-2 c =
     let n = c.before.before.before.before.before in
     rw (n.before.before.if1.false, c.before.before.write-buffer2.ensures, n.within.ensures.0, n.before.filled.ensures.0)
 
-pub write-left-spec : {M : Type 1} → statement M
-write-left-spec = tie.close (tie.spec (λ c. search rules) (λ c κs. tt) (λ c κs. tt) (λ c. search rules) returns (λ c κs. tt) (λ c κs. tt)
+pub write_left_spec : {M : Type 1} → statement M
+write_left_spec = tie.close (tie.spec (λ c. search rules) (λ c κs. tt) (λ c κs. tt) (λ c. search rules) returns (λ c κs. tt) (λ c κs. tt)
     (λ c. within-whole _ c.before.filled.result c.within.ensures.1 c.before.filled.ensures.1)
     (λ c. lent_length _ c.before.before.filled.result c.before.within.ensures.1 c.before.before.filled.ensures.1)
     (λ c κs. tt) (λ c. search rules) returns-2)

@@ -17,8 +17,8 @@ returns-3 c =
     let k = c.before.before.before.before.before.before in
     rw k.before.before.before.shape.given.1 (joined _ _ _ k.write-closing.ensures c.before.before.write-left.ensures)
 
-pub write-said-spec : {M : Type 1} → statement M
-write-said-spec =
+pub write_said_spec : {M : Type 1} → statement M
+write_said_spec =
     tie.close
     (tie.spec
     (λ c. search rules)

@@ -10,8 +10,8 @@ returns : tie.Need-returns
 unfolding tally
 returns c = rw (c.before.before.fill.ensures, flag, flag, flag)
 
-pub write-tally-spec : {M : Type 1} → statement M
-write-tally-spec =
+pub write_tally_spec : {M : Type 1} → statement M
+write_tally_spec =
     tie.close
     (tie.spec
     (λ c. refl)

@@ -11,5 +11,5 @@ returns c = rw (eq-eqb _ _ c.before.before.before.before.before.before.if1.true,
 returns-2 : tie.Need-returns-2
 returns-2 c = rw (ne_eqb _ _ c.before.before.before.before.if1.false, c.before.before.write-decimal.ensures)
 
-pub write-value-spec : {M : Type 1} → statement M
-write-value-spec = tie.close (tie.spec (λ c. refl) (λ c. refl) (λ c κs. tt) (λ c. search rules) returns (λ c κs. tt) (λ c. search rules) returns-2)
+pub write_value_spec : {M : Type 1} → statement M
+write_value_spec = tie.close (tie.spec (λ c. refl) (λ c. refl) (λ c κs. tt) (λ c. search rules) returns (λ c κs. tt) (λ c. search rules) returns-2)

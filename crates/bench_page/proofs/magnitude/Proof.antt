@@ -66,5 +66,5 @@ cast-result-2 c =
 returns-2 : tie.Need-returns-2
 returns-2 c = rw (read _ c.before.ranges.z)
 
-pub magnitude-spec : {M : Type 1} → statement M
-magnitude-spec = tie.close (tie.spec cast-wide sub-result cast-result returns cast-result-2 returns-2)
+pub magnitude_spec : {M : Type 1} → statement M
+magnitude_spec = tie.close (tie.spec cast-wide sub-result cast-result returns cast-result-2 returns-2)

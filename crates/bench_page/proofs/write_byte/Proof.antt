@@ -13,5 +13,5 @@ returns-2 : tie.Need-returns-2
 unfolding written_byte
 returns-2 c = search cases
 
-pub write-byte-spec : {M : Type 1} → statement M
-write-byte-spec = tie.close (tie.spec (λ c. search rules) (λ c. search rules) (λ c. search rules) returns returns-2)
+pub write_byte_spec : {M : Type 1} → statement M
+write_byte_spec = tie.close (tie.spec (λ c. search rules) (λ c. search rules) (λ c. search rules) returns returns-2)

@@ -12,8 +12,8 @@ returns c =
     let first = second.before.before.before.before.before in
     rw (second.write-byte2.ensures, second.before.before.hex2.ensures, first.write_byte.ensures, first.before.before.hex.ensures)
 
-pub write-pair-spec : {M : Type 1} → statement M
-write-pair-spec =
+pub write_pair_spec : {M : Type 1} → statement M
+write_pair_spec =
     tie.close
     (tie.spec
     (λ c κs. search rules)

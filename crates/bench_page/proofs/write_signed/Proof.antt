@@ -40,8 +40,8 @@ returns-2 c =
     let fits = m.before.before.before.ranges.z in
     plain _ _ _ _ (rw (to_z-of_z fits) at m.before.if1.false) (rw (to_z-of_z fits) at m.magnitude2.ensures) c.before.before.write-decimal2.ensures
 
-pub write-signed-spec : {M : Type 1} → statement M
-write-signed-spec =
+pub write_signed_spec : {M : Type 1} → statement M
+write_signed_spec =
     tie.close
     (tie.spec
     (λ c κs. search rules)

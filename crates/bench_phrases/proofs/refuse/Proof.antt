@@ -34,8 +34,8 @@ returns-4 c = rw (c.before.before.before.before.before.enum-told4.given.1, c.bef
 returns-5 : tie.Need-returns-5
 returns-5 c = rw (c.before.before.before.before.before.enum-told5.given.1, c.before.before.write-text5.ensures)
 
-pub refuse-spec : {M : Type 1} → statement M
-refuse-spec =
+pub refuse_spec : {M : Type 1} → statement M
+refuse_spec =
     tie.close
     (tie.spec
     (λ c. search rules)

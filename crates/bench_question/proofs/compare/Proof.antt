@@ -9,8 +9,8 @@ returns c =
     let d = c.before.before in
     rw (c.compare-rooms.ensures, c.before.compensate.ensures, d.rest3.ensures, d.before.rest2.ensures, d.before.before.rest.ensures)
 
-pub compare-spec : {M : Type 1} → statement M
-compare-spec =
+pub compare_spec : {M : Type 1} → statement M
+compare_spec =
     tie.close
     (tie.spec
     (λ c κs. tt)

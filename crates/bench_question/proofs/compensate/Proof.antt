@@ -17,8 +17,8 @@ returns c =
       d.before.before.rest.ensures,
     )
 
-pub compensate-spec : {M : Type 1} → statement M
-compensate-spec =
+pub compensate_spec : {M : Type 1} → statement M
+compensate_spec =
     tie.close
     (tie.spec
     (λ c κs. tt)

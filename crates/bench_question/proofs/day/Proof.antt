@@ -18,8 +18,8 @@ returns c =
       d.before.before.rest.ensures,
     )
 
-pub day-spec : {M : Type 1} → statement M
-day-spec =
+pub day_spec : {M : Type 1} → statement M
+day_spec =
     tie.close
     (tie.spec
     (λ c κs. tt)

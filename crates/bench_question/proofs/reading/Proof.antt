@@ -26,8 +26,8 @@ returns-4 c =
     let e = c.before.before.before.before.before in
     rw (e.enum-told4.given.1, c.before.before.verdicts.ensures, c.before.before.before.before.compare.ensures, e.before.before.compensate.ensures)
 
-pub reading-spec : {M : Type 1} → statement M
-reading-spec =
+pub reading_spec : {M : Type 1} → statement M
+reading_spec =
     tie.close
     (tie.spec
     (λ c κs. tt)

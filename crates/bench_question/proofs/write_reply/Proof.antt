@@ -33,8 +33,8 @@ returns-9 c = rw (c.before.before.before.before.before.before.question9.given.1,
 returns-10 : tie.Need-returns-10
 returns-10 c = rw (c.before.before.before.before.before.question10.given.1, c.before.before.day.ensures)
 
-pub write-reply-spec : {M : Type 1} → statement M
-write-reply-spec =
+pub write_reply_spec : {M : Type 1} → statement M
+write_reply_spec =
     tie.close
     (tie.spec
     (λ c. search rules)

@@ -7,5 +7,5 @@ use Rattle.bench_reading.proofs.cal.Tie as tie
 returns : tie.Need-returns
 returns c = rw (c.before.before.write-calibration.ensures, one-calibration _ _ c.before.before.before.before.calibrate.ensures)
 
-pub cal-spec : {M : Type 1} → statement M
-cal-spec = tie.close (tie.spec (λ c κs. tt) (λ c κs. tt) (λ c. search rules) returns)
+pub cal_spec : {M : Type 1} → statement M
+cal_spec = tie.close (tie.spec (λ c κs. tt) (λ c κs. tt) (λ c. search rules) returns)

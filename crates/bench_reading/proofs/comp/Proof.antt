@@ -9,5 +9,5 @@ returns c = rw (c.before.before.before.before.before.answer.given.1, c.before.be
 returns-2 : tie.Need-returns-2
 returns-2 c = rw (c.before.before.before.before.before.answer2.given.1, c.before.before.write-reading.ensures)
 
-pub comp-spec : {M : Type 1} → statement M
-comp-spec = tie.close (tie.spec (λ c. search rules) (λ c. search rules) (λ c κs. tt) (λ c. search rules) (λ c κs. tt) (λ c. search rules) returns (λ c. search rules) returns-2)
+pub comp_spec : {M : Type 1} → statement M
+comp_spec = tie.close (tie.spec (λ c. search rules) (λ c. search rules) (λ c κs. tt) (λ c. search rules) (λ c κs. tt) (λ c. search rules) returns (λ c. search rules) returns-2)

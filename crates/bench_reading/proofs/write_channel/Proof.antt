@@ -9,8 +9,8 @@ returns c = rw (c.before.before.before.before.before.channel.given.1, c.before.b
 returns-2 : tie.Need-returns-2
 returns-2 c = rw (c.before.before.before.before.before.before.channel2.given.1, c.before.before.write-number2.ensures)
 
-pub write-channel-spec : {M : Type 1} → statement M
-write-channel-spec =
+pub write_channel_spec : {M : Type 1} → statement M
+write_channel_spec =
     tie.close
     (tie.spec
     (λ c. search rules)

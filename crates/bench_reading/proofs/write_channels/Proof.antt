@@ -12,5 +12,5 @@ returns c =
     joined _ _ _ p.before.before.before.before.write-temperature.ensures
     (joined _ _ _ p.write-channel.ensures c.before.before.write-channel2.ensures)
 
-pub write-channels-spec : {M : Type 1} → statement M
-write-channels-spec = tie.close (tie.spec (λ c κs. tt) (λ c κs. tt) (λ c κs. tt) (λ c. search rules) returns)
+pub write_channels_spec : {M : Type 1} → statement M
+write_channels_spec = tie.close (tie.spec (λ c κs. tt) (λ c κs. tt) (λ c κs. tt) (λ c. search rules) returns)

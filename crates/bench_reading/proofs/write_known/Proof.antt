@@ -10,5 +10,5 @@ returns c =
     let s = c.before.before.before.before.before.before.before in
     rw (c.before.before.fill-signed.ensures, to_z-of_z s.ranges.value, to_z-of_z s.ranges.fine)
 
-pub write-known-spec : {M : Type 1} → statement M
-write-known-spec = tie.close (tie.spec (λ c. refl) (λ c. refl) (λ c κs. tt) (λ c. search rules) returns)
+pub write_known_spec : {M : Type 1} → statement M
+write_known_spec = tie.close (tie.spec (λ c. refl) (λ c. refl) (λ c κs. tt) (λ c. search rules) returns)

@@ -7,5 +7,5 @@ use Rattle.bench_reading.proofs.write_number.Tie as tie
 returns : tie.Need-returns
 returns c = c.before.before.fill.ensures
 
-pub write-number-spec : {M : Type 1} → statement M
-write-number-spec = tie.close (tie.spec (λ c. refl) (λ c. refl) (λ c κs. tt) (λ c. search rules) returns)
+pub write_number_spec : {M : Type 1} → statement M
+write_number_spec = tie.close (tie.spec (λ c. refl) (λ c. refl) (λ c κs. tt) (λ c. search rules) returns)

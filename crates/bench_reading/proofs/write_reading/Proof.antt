@@ -9,5 +9,5 @@ returns : tie.Need-returns
 unfolding reading
 returns c = joined _ _ _ c.before.before.before.before.before.before.write-decimal.ensures c.before.before.write-channels.ensures
 
-pub write-reading-spec : {M : Type 1} → statement M
-write-reading-spec = tie.close (tie.spec (λ c. search rules) (λ c κs. tt) (λ c κs. tt) (λ c. search rules) returns)
+pub write_reading_spec : {M : Type 1} → statement M
+write_reading_spec = tie.close (tie.spec (λ c. search rules) (λ c κs. tt) (λ c κs. tt) (λ c. search rules) returns)

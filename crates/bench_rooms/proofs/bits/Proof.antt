@@ -30,8 +30,8 @@ float-to-bits-result c = is_number c.before.args.x c.if1.true
 returns-2 : tie.Need-returns-2
 returns-2 c = none c.before.args.x c.if1.false
 
-pub bits-spec : {M : Type 1} → statement M
-bits-spec =
+pub bits_spec : {M : Type 1} → statement M
+bits_spec =
     tie.close
     (tie.spec
     float-to-bits-result

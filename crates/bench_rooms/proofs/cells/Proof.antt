@@ -14,8 +14,8 @@ returns c =
     three _ _ _ _ first.write_cell.ensures second.before.before.before.before.write_byte.ensures second.write-cell2.ensures
     third.before.before.before.before.write-byte2.ensures third.write-cell3.ensures
 
-pub cells-spec : {M : Type 1} → statement M
-cells-spec =
+pub cells_spec : {M : Type 1} → statement M
+cells_spec =
     tie.close
     (tie.spec
     (λ c κs. tt)

@@ -18,8 +18,8 @@ returns c =
     third.before.before.before.before.write-byte2.ensures
     (joined _ _ _ third.write-double3.ensures (rw (flagged, flagged, flagged) at flags.fill.ensures))
 
-pub point-spec : {M : Type 1} → statement M
-point-spec =
+pub point_spec : {M : Type 1} → statement M
+point_spec =
     tie.close
     (tie.spec
     (λ c κs. tt)

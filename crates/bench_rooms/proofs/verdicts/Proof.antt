@@ -14,8 +14,8 @@ returns c =
     three _ _ _ _ first.write-verdict.ensures second.before.before.before.before.write_byte.ensures second.write-verdict2.ensures
     third.before.before.before.before.write-byte2.ensures third.write-verdict3.ensures
 
-pub verdicts-spec : {M : Type 1} → statement M
-verdicts-spec =
+pub verdicts_spec : {M : Type 1} → statement M
+verdicts_spec =
     tie.close
     (tie.spec
     (λ c κs. tt)

@@ -21,8 +21,8 @@ returns-4 : tie.Need-returns-4
 unfolding cell
 returns-4 c = rw (c.before.before.before.before.before.before.before.before.cell4.given.1, c.before.before.fill.ensures)
 
-pub write-cell-spec : {M : Type 1} → statement M
-write-cell-spec =
+pub write_cell_spec : {M : Type 1} → statement M
+write_cell_spec =
     tie.close
     (tie.spec
     (λ c. search rules)

@@ -9,8 +9,8 @@ returns : tie.Need-returns
 unfolding double
 returns c = rw (c.before.before.fill.ensures, c.before.before.before.before.before.before.bits.ensures)
 
-pub write-double-spec : {M : Type 1} → statement M
-write-double-spec =
+pub write_double_spec : {M : Type 1} → statement M
+write_double_spec =
     tie.close
     (tie.spec
     (λ c κs. tt)

@@ -24,8 +24,8 @@ returns-3 c =
     let w = c.before.before.before.before.before.before.before.before.before in
     rw c.before.before.before.before.before.enum-told3.given.1 (first _ _ _ w.write_byte.ensures c.before.before.write-text3.ensures)
 
-pub write-verdict-spec : {M : Type 1} → statement M
-write-verdict-spec =
+pub write_verdict_spec : {M : Type 1} → statement M
+write_verdict_spec =
     tie.close
     (tie.spec
     (λ c κs. tt)

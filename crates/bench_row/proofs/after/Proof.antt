@@ -14,5 +14,5 @@ returns-2 c = (search cases, omega arith)
 returns-3 : tie.Need-returns-3
 returns-3 c = (search cases, omega arith)
 
-pub after-spec : {M : Type 1} → statement M
-after-spec = tie.close (tie.spec (λ c. search rules) returns (λ c. search rules) returns-2 returns-3)
+pub after_spec : {M : Type 1} → statement M
+after_spec = tie.close (tie.spec (λ c. search rules) returns (λ c. search rules) returns-2 returns-3)

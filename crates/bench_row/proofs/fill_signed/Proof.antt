@@ -53,8 +53,8 @@ same_length c = omega arith
 returns : tie.Need-returns invariant-loop decreases-loop
 returns c = all signed_place (pos 0) _ _ _ _ _ _ c.loop-test.false c.before.loop.invariant.3
 
-pub fill-signed-spec : {M : Type 1} → statement M
-fill-signed-spec =
+pub fill_signed_spec : {M : Type 1} → statement M
+fill_signed_spec =
     tie.close
     (tie.spec
     invariant-loop

@@ -9,5 +9,5 @@ use Rattle.bench_row.proofs.signed_at.Tie as tie
 returns-2 : tie.Need-returns-2
 returns-2 c = sym (get_or-eq_default c.before.args.numbers.now (pos 0) c.if1.false)
 
-pub signed-at-spec : {M : Type 1} → statement M
-signed-at-spec = tie.close (tie.spec (λ c. search rules) (λ c. search rules) (λ c. search rules) returns-2)
+pub signed_at_spec : {M : Type 1} → statement M
+signed_at_spec = tie.close (tie.spec (λ c. search rules) (λ c. search rules) (λ c. search rules) returns-2)

@@ -10,5 +10,5 @@ returns : tie.Need-returns
 unfolding buffer
 returns c = joined _ _ _ c.before.before.before.before.before.before.write-text.ensures c.before.before.write_bytes.ensures
 
-pub write-buffer-spec : {M : Type 1} → statement M
-write-buffer-spec = tie.close (tie.spec (λ c. refl) (λ c κs. tt) (λ c κs. tt) (λ c. search rules) returns)
+pub write_buffer_spec : {M : Type 1} → statement M
+write_buffer_spec = tie.close (tie.spec (λ c. refl) (λ c κs. tt) (λ c κs. tt) (λ c. search rules) returns)

@@ -19,8 +19,8 @@ returns-3 c =
     let t = c.before.before.before.before in
     rw (ne_eqb _ _ t.before.if1.false, ne_eqb _ _ t.if2.false, c.before.before.write_byte.ensures)
 
-pub write-place-spec : {M : Type 1} → statement M
-write-place-spec =
+pub write_place_spec : {M : Type 1} → statement M
+write_place_spec =
     tie.close
     (tie.spec
     (λ c κs. tt)

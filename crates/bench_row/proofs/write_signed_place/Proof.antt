@@ -15,6 +15,6 @@ returns-2 : tie.Need-returns-2
 unfolding written
 returns-2 c = rw (ne_eqb _ _ c.before.before.before.before.if1.false, c.before.before.write_byte.ensures)
 
-pub write-signed-place-spec : {M : Type 1} → statement M
-write-signed-place-spec =
+pub write_signed_place_spec : {M : Type 1} → statement M
+write_signed_place_spec =
     tie.close (tie.spec (λ c κs. tt) (λ c. search rules) returns (λ c κs. tt) (λ c. search rules) returns-2)

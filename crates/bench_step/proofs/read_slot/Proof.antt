@@ -21,8 +21,8 @@ returns c =
       a.before.before.before.after.ensures,
     )
 
-pub read-slot-spec : {M : Type 1} → statement M
-read-slot-spec =
+pub read_slot_spec : {M : Type 1} → statement M
+read_slot_spec =
     tie.close
     (tie.spec
     (λ c κs. tt)

@@ -6,8 +6,8 @@ use Rattle.bench_step.proofs.up_to.Tie as tie
 returns : tie.Need-returns
 returns c = rw (c.front.ensures, c.before.find.ensures) (taken _ _)
 
-pub up-to-spec : {M : Type 1} → statement M
-up-to-spec =
+pub up_to_spec : {M : Type 1} → statement M
+up_to_spec =
     tie.close
     (tie.spec
     (λ c κs. tt)

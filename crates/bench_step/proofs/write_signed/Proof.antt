@@ -10,8 +10,8 @@ returns c = rw (lt-ltb _ _ c.before.before.before.before.before.before.if1.true,
 returns-2 : tie.Need-returns-2
 returns-2 c = rw (le-ltb _ _ c.before.before.before.before.before.before.if1.false, c.before.before.fill2.ensures)
 
-pub write-signed-spec : {M : Type 1} → statement M
-write-signed-spec =
+pub write_signed_spec : {M : Type 1} → statement M
+write_signed_spec =
     tie.close
     (tie.spec
     (λ c. search rules)

@@ -14,8 +14,8 @@ returns c =
     joined _ _ _ t.before.before.before.before.write-decimal.ensures
     (joined _ _ _ t.write-temperature.ensures (joined _ _ _ p.write-amount.ensures h.write-amount2.ensures))
 
-pub write-slot-spec : {M : Type 1} → statement M
-write-slot-spec =
+pub write_slot_spec : {M : Type 1} → statement M
+write_slot_spec =
     tie.close
     (tie.spec
     (λ c κs. tt)

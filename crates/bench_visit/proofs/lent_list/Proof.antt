@@ -8,5 +8,5 @@ returns : tie.Need-returns
 unfolding zeros
 returns c = (refl, refl)
 
-pub lent-list-spec : {M : Type 1} → statement M
-lent-list-spec = tie.close (tie.spec returns)
+pub lent_list_spec : {M : Type 1} → statement M
+lent_list_spec = tie.close (tie.spec returns)

@@ -10,8 +10,8 @@ returns c = rw (eq-eqb _ _ c.before.before.before.before.before.before.if1.true,
 returns-2 : tie.Need-returns-2
 returns-2 c = rw (ne_eqb _ _ c.before.before.before.before.before.before.if1.false, c.before.before.fill2.ensures)
 
-pub write-counted-spec : {M : Type 1} → statement M
-write-counted-spec =
+pub write_counted_spec : {M : Type 1} → statement M
+write_counted_spec =
     tie.close
     (tie.spec
     (λ c. search rules)

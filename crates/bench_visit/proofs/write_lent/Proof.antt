@@ -11,5 +11,5 @@ returns c =
     let b = c.before.before.before.before.before.before in
     rw (c.before.before.end.ensures, joined _ _ _ b.before.before.before.before.write-written.ensures b.write-buffer.ensures)
 
-pub write-lent-spec : {M : Type 1} → statement M
-write-lent-spec = tie.close (tie.spec (λ c κs. tt) (λ c κs. tt) (λ c κs. tt) (λ c. search rules) returns)
+pub write_lent_spec : {M : Type 1} → statement M
+write_lent_spec = tie.close (tie.spec (λ c κs. tt) (λ c κs. tt) (λ c κs. tt) (λ c. search rules) returns)

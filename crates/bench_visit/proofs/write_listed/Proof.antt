@@ -14,8 +14,8 @@ returns c =
 returns-2 : tie.Need-returns-2
 returns-2 c = rw (ne_eqb _ _ c.before.before.before.before.before.before.if1.false, c.before.before.fill2.ensures)
 
-pub write-listed-spec : {M : Type 1} → statement M
-write-listed-spec =
+pub write_listed_spec : {M : Type 1} → statement M
+write_listed_spec =
     tie.close
     (tie.spec
     (λ c. search rules)

@@ -16,8 +16,8 @@ returns-3 : tie.Need-returns-3
 unfolding read
 returns-3 c = rw (c.before.before.before.before.before.read3.given.1, c.before.before.write-listed2.ensures)
 
-pub write-read-spec : {M : Type 1} → statement M
-write-read-spec =
+pub write_read_spec : {M : Type 1} → statement M
+write_read_spec =
     tie.close
     (tie.spec
     (λ c. search rules)

@@ -18,8 +18,8 @@ returns c =
     let n = e.before.before in
     rw (c.before.before.write-lent.ensures, (left e).front, e.write.ensures.0, n.within.ensures.0, n.before.filled.ensures.0)
 
-pub write-record-spec : {M : Type 1} → statement M
-write-record-spec =
+pub write_record_spec : {M : Type 1} → statement M
+write_record_spec =
     tie.close
     (tie.spec
     (λ c κs. tt)

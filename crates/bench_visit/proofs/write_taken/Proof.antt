@@ -15,8 +15,8 @@ returns c = rw (c.before.before.before.before.before.before.taken.given.1, c.bef
 returns-2 : tie.Need-returns-2
 returns-2 c = rw (c.before.before.before.before.enum_told.given.1, c.before.before.refuse.ensures)
 
-pub write-taken-spec : {M : Type 1} → statement M
-write-taken-spec =
+pub write_taken_spec : {M : Type 1} → statement M
+write_taken_spec =
     tie.close
     (tie.spec
     (λ c. search rules)

@@ -12,8 +12,8 @@ returns-2 c = rw (c.before.before.before.before.before.written2.given.1, c.befor
 returns-3 : tie.Need-returns-3
 returns-3 c = rw (c.before.before.before.before.before.written3.given.1, c.before.before.write-counted2.ensures)
 
-pub write-written-spec : {M : Type 1} → statement M
-write-written-spec =
+pub write_written_spec : {M : Type 1} → statement M
+write_written_spec =
     tie.close
     (tie.spec
     (λ c. search rules)

@@ -6,5 +6,5 @@ use Rattle.bench_waiting.proofs.wait_typical.Tie as tie
 returns : tie.Need-returns
 returns c = rw (c.before.before.write-wait.ensures, c.before.before.before.before.estimate-wait.ensures)
 
-pub wait-typical-spec : {M : Type 1} → statement M
-wait-typical-spec = tie.close (tie.spec (λ c κs. tt) (λ c κs. tt) (λ c. search rules) returns)
+pub wait_typical_spec : {M : Type 1} → statement M
+wait_typical_spec = tie.close (tie.spec (λ c κs. tt) (λ c κs. tt) (λ c. search rules) returns)

@@ -10,8 +10,8 @@ returns c = rw (c.before.before.before.before.before.before.before.polled.given.
 returns-2 : tie.Need-returns-2
 returns-2 c = rw (c.before.before.before.before.before.before.before.polled2.given.1, c.before.before.fill2.ensures)
 
-pub write-poll-spec : {M : Type 1} → statement M
-write-poll-spec =
+pub write_poll_spec : {M : Type 1} → statement M
+write_poll_spec =
     tie.close
     (tie.spec
     (λ c. search rules)

@@ -10,8 +10,8 @@ returns c = rw (c.before.before.before.before.before.before.before.wait.given.1,
 returns-2 : tie.Need-returns-2
 returns-2 c = rw (c.before.before.before.before.before.wait2.given.1, c.before.before.write-decimal.ensures)
 
-pub write-wait-spec : {M : Type 1} → statement M
-write-wait-spec =
+pub write_wait_spec : {M : Type 1} → statement M
+write_wait_spec =
     tie.close
     (tie.spec
     (λ c. search rules)

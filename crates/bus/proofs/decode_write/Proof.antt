@@ -47,8 +47,8 @@ returns-2 c =
     passed.before.decode-number.ensures passed.if1.false (rw received.before.body.ensures (sym long))
     (rw (received.receiving.ensures, received.before.body.ensures) at written.write-changed.ensures))
 
-pub decode-write-spec : {M : Type 1} → statement M
-decode-write-spec =
+pub decode_write_spec : {M : Type 1} → statement M
+decode_write_spec =
     tie.close
     (tie.spec
     (λ c κs. search rules)

@@ -31,8 +31,8 @@ returns-2 c =
     handing [] (question a.device a.register) a.lent.now number passed.if1.false
     measured.question-length.ensures c.before.before.write-question.ensures
 
-pub encode-read-spec : {M : Type 1} → statement M
-encode-read-spec =
+pub encode_read_spec : {M : Type 1} → statement M
+encode_read_spec =
     tie.close
     (tie.spec
     (λ c κs. search rules)

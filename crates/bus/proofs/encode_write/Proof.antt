@@ -35,8 +35,8 @@ returns-2 c =
     handing [] (message a.device a.pairs.now) a.lent.now number passed.if1.false
     measured.message-length.ensures c.before.before.write-message.ensures
 
-pub encode-write-spec : {M : Type 1} → statement M
-encode-write-spec =
+pub encode_write_spec : {M : Type 1} → statement M
+encode_write_spec =
     tie.close
     (tie.spec
     (λ c κs. search rules)

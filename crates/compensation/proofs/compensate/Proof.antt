@@ -9,5 +9,5 @@ returns : tie.Need-returns
 unfolding compensated
 returns c = rw (one-calibration _ _ c.before.calibrate.ensures) at c.compensate-with.ensures
 
-pub compensate-spec : {M : Type 1} → statement M
-compensate-spec = tie.close (tie.spec (λ c κs. search rules) (λ c κs. search rules) returns)
+pub compensate_spec : {M : Type 1} → statement M
+compensate_spec = tie.close (tie.spec (λ c κs. search rules) (λ c κs. search rules) returns)

@@ -19,8 +19,8 @@ returns-2 c =
 returns-3 : tie.Need-returns-3
 returns-3 c = ap reading_answer (rw c.before.before.known2.given.1 (search cases))
 
-pub compensate-with-spec : {M : Type 1} → statement M
-compensate-with-spec =
+pub compensate_with_spec : {M : Type 1} → statement M
+compensate_with_spec =
     tie.close
     (tie.spec
     (λ c. search rules)

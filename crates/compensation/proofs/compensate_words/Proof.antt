@@ -14,5 +14,5 @@ returns-2 : tie.Need-returns-2
 unfolding compensated_words
 returns-2 c = ap reading_answer (search cases)
 
-pub compensate-words-spec : {M : Type 1} → statement M
-compensate-words-spec = tie.close (tie.spec (λ c κs. search rules) (λ c κs. search rules) (λ c κs. search rules) returns returns-2)
+pub compensate_words_spec : {M : Type 1} → statement M
+compensate_words_spec = tie.close (tie.spec (λ c κs. search rules) (λ c κs. search rules) (λ c κs. search rules) returns returns-2)

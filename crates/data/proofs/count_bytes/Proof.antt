@@ -10,5 +10,5 @@ returns c =
     rw (c.part.ensures, c.before.join.ensures)
     (parted-joined _ _ _ _ _ _ _ _ f.b0.fits f.b1.fits f.b2.fits f.b3.fits f.b4.fits f.b5.fits f.b6.fits f.b7.fits)
 
-pub count-bytes-spec : {M : Type 1} → statement M
-count-bytes-spec = tie.close (tie.spec (λ c κs. search rules) (λ c κs. search rules) returns)
+pub count_bytes_spec : {M : Type 1} → statement M
+count_bytes_spec = tie.close (tie.spec (λ c κs. search rules) (λ c κs. search rules) returns)

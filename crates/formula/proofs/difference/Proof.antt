@@ -11,5 +11,5 @@ returns c =
     let s = c.before.before.before in
     rw (c.subtract.ensures, c.before.before.signed32.ensures, c.before.unsigned.ensures, to_z-of_z s.ranges.fine)
 
-pub difference-spec : {M : Type 1} → statement M
-difference-spec = tie.close (tie.spec (λ c κs. tt) (λ c κs. tt) (λ c κs. tt) returns)
+pub difference_spec : {M : Type 1} → statement M
+difference_spec = tie.close (tie.spec (λ c κs. tt) (λ c κs. tt) (λ c κs. tt) returns)

@@ -6,5 +6,5 @@ use Rattle.formula.proofs.is_usual.Tie as tie
 returns : tie.Need-returns
 returns c = rw (to_z-of_z c.ranges.fine)
 
-pub is-usual-spec : {M : Type 1} → statement M
-is-usual-spec = tie.close (tie.spec returns)
+pub is_usual_spec : {M : Type 1} → statement M
+is_usual_spec = tie.close (tie.spec returns)

@@ -8,5 +8,5 @@ returns c =
     let s = c.before in
     rw (to_z-of_z s.ranges.x, to_z-of_z (sfits_widen tt s.ranges.x)) at c.signed32.ensures
 
-pub signed16-spec : {M : Type 1} → statement M
-signed16-spec = tie.close (tie.spec (λ c. rw (to_z-of_z c.ranges.x) (sfits_widen tt c.ranges.x)) (λ c κs. tt) returns)
+pub signed16_spec : {M : Type 1} → statement M
+signed16_spec = tie.close (tie.spec (λ c. rw (to_z-of_z c.ranges.x) (sfits_widen tt c.ranges.x)) (λ c κs. tt) returns)

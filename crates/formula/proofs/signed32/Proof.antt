@@ -11,5 +11,5 @@ cast-t2 c = rw (to_z-of_z c.ranges.x) (sfits_widen tt c.ranges.x)
 returns : tie.Need-returns
 returns c = ap Value (rw (to_z-of_z c.ranges.x) (to_z-of_z (sfits_widen tt c.ranges.x)))
 
-pub signed32-spec : {M : Type 1} → statement M
-signed32-spec = tie.close (tie.spec cast-t2 returns)
+pub signed32_spec : {M : Type 1} → statement M
+signed32_spec = tie.close (tie.spec cast-t2 returns)

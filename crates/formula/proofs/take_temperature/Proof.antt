@@ -19,5 +19,5 @@ returns-2 : tie.Need-returns-2
 unfolding temperature_plainly
 returns-2 c = rw c.enum_told.given.1
 
-pub take-temperature-spec : {M : Type 1} → statement M
-take-temperature-spec = tie.close (tie.spec (λ c. search rules) (λ c. search rules) returns returns-2)
+pub take_temperature_spec : {M : Type 1} → statement M
+take_temperature_spec = tie.close (tie.spec (λ c. search rules) (λ c. search rules) returns returns-2)

@@ -11,5 +11,5 @@ use Rattle.formula.proofs.unsigned.Tie as tie
 returns : tie.Need-returns
 returns c = let h = c.ranges.n.fits in ap Value (to_z_pos w64 {n = c.args.n} (omega arith))
 
-pub unsigned-spec : {M : Type 1} → statement M
-unsigned-spec = tie.close (tie.spec (λ c. search rules) returns)
+pub unsigned_spec : {M : Type 1} → statement M
+unsigned_spec = tie.close (tie.spec (λ c. search rules) returns)

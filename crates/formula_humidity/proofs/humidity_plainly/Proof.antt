@@ -22,5 +22,5 @@ returns-2 c =
     let f = to_z-of_z c.before.before.ranges.fine in
     rw (rw f at (sym c.before.is_plain.ensures ∙ c.if1.false))
 
-pub humidity-plainly-spec : {M : Type 1} → statement M
-humidity-plainly-spec = tie.close (tie.spec (λ c κs. search rules) humidity-requires returns returns-2)
+pub humidity_plainly_spec : {M : Type 1} → statement M
+humidity_plainly_spec = tie.close (tie.spec (λ c κs. search rules) humidity-requires returns returns-2)

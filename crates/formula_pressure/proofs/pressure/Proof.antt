@@ -17,5 +17,5 @@ returns-2 c =
     let s = c.before.before.before in
     ap channel_answer (rw (to_z-of_z s.ranges.fine) at c.pressure.ensures)
 
-pub pressure-spec : {M : Type 1} → statement M
-pressure-spec = tie.close (tie.spec (λ c κs. search rules) returns (λ c κs. search rules) returns-2)
+pub pressure_spec : {M : Type 1} → statement M
+pressure_spec = tie.close (tie.spec (λ c κs. search rules) returns (λ c κs. search rules) returns-2)

@@ -22,5 +22,5 @@ returns-2 c =
     let f = to_z-of_z c.before.before.ranges.fine in
     rw (rw f at (sym c.before.is_plain.ensures ∙ c.if1.false))
 
-pub pressure-plainly-spec : {M : Type 1} → statement M
-pressure-plainly-spec = tie.close (tie.spec (λ c κs. search rules) pressure-requires returns returns-2)
+pub pressure_plainly_spec : {M : Type 1} → statement M
+pressure_plainly_spec = tie.close (tie.spec (λ c κs. search rules) pressure-requires returns returns-2)

@@ -19,5 +19,5 @@ returns c =
 returns-2 : tie.Need-returns-2
 returns-2 c = ap temperature_answer c.temperature.ensures
 
-pub temperature-spec : {M : Type 1} → statement M
-temperature-spec = tie.close (tie.spec (λ c κs. search rules) returns (λ c κs. search rules) returns-2)
+pub temperature_spec : {M : Type 1} → statement M
+temperature_spec = tie.close (tie.spec (λ c κs. search rules) returns (λ c κs. search rules) returns-2)

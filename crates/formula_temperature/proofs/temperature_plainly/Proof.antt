@@ -18,5 +18,5 @@ returns-2 : tie.Need-returns-2
 unfolding temperature_plainly
 returns-2 c = rw (sym c.before.is-near.ensures, c.if1.false)
 
-pub temperature-plainly-spec : {M : Type 1} → statement M
-temperature-plainly-spec = tie.close (tie.spec (λ c κs. search rules) temperature-requires (λ c κs. search rules) returns returns-2)
+pub temperature_plainly_spec : {M : Type 1} → statement M
+temperature_plainly_spec = tie.close (tie.spec (λ c κs. search rules) temperature-requires (λ c κs. search rules) returns returns-2)

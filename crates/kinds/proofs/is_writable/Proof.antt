@@ -2,5 +2,5 @@
 use Rattle.kinds.proofs.is_writable.Statement.{statement}
 use Rattle.kinds.proofs.is_writable.Tie as tie
 
-pub is-writable-spec : {M : Type 1} → statement M
-is-writable-spec = tie.close (tie.spec (λ c κs. tt) (λ c κs. tt) (λ c. rw (c.is-writable.ensures, c.before.before.facts.ensures)))
+pub is_writable_spec : {M : Type 1} → statement M
+is_writable_spec = tie.close (tie.spec (λ c κs. tt) (λ c κs. tt) (λ c. rw (c.is-writable.ensures, c.before.before.facts.ensures)))

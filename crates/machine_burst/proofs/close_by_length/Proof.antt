@@ -14,8 +14,8 @@ partial c =
     let asked = c.before.before.before.before in
     rw (c.answer3.ensures, c.before.end.ensures) (search (cases, rw asked.before.before.facts.ensures at asked.if2.false))
 
-pub close-by-length-spec : {M : Type 1} → statement M
-close-by-length-spec =
+pub close_by_length_spec : {M : Type 1} → statement M
+close_by_length_spec =
     tie.close
     (tie.spec
     (λ c κs. tt)

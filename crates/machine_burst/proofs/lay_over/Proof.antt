@@ -52,8 +52,8 @@ returns c =
     let l = c.before.loop in
     all_of l.lent c.before.before.args.t2 l.i (length c.before.before.args.lent.now) l.invariant.1 (search rules) (search rules) l.invariant.2
 
-pub lay-over-spec : {M : Type 1} → statement M
-lay-over-spec =
+pub lay_over_spec : {M : Type 1} → statement M
+lay_over_spec =
     tie.close
     (tie.spec
     invariant-loop

@@ -2,8 +2,8 @@
 use Rattle.machine_control.proofs.begins.Statement.{statement}
 use Rattle.machine_control.proofs.begins.Tie as tie
 
-pub begins-spec : {M : Type 1} → statement M
-begins-spec =
+pub begins_spec : {M : Type 1} → statement M
+begins_spec =
     tie.close
     (tie.spec
     (λ c κs. tt)

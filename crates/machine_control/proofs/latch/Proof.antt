@@ -2,5 +2,5 @@
 use Rattle.machine_control.proofs.latch.Statement.{statement}
 use Rattle.machine_control.proofs.latch.Tie as tie
 
-pub latch-spec : {M : Type 1} → statement M
-latch-spec = tie.close (tie.spec (λ c κs. tt) (λ c. rw (← c.f2-of.ensures)))
+pub latch_spec : {M : Type 1} → statement M
+latch_spec = tie.close (tie.spec (λ c κs. tt) (λ c. rw (← c.f2-of.ensures)))

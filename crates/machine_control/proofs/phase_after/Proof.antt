@@ -3,8 +3,8 @@ use Rattle.laws.specs.Cases.{cases}
 use Rattle.machine_control.proofs.phase_after.Statement.{statement}
 use Rattle.machine_control.proofs.phase_after.Tie as tie
 
-pub phase-after-spec : {M : Type 1} → statement M
-phase-after-spec =
+pub phase_after_spec : {M : Type 1} → statement M
+phase_after_spec =
     tie.close
     (tie.spec
     (λ c. search cases)

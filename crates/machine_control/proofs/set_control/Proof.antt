@@ -2,8 +2,8 @@
 use Rattle.machine_control.proofs.set_control.Statement.{statement}
 use Rattle.machine_control.proofs.set_control.Tie as tie
 
-pub set-control-spec : {M : Type 1} → statement M
-set-control-spec =
+pub set_control_spec : {M : Type 1} → statement M
+set_control_spec =
     tie.close
     (tie.spec
     (λ c κs. tt)

@@ -7,5 +7,5 @@ returns : tie.Need-returns
 unfolding effect
 returns c = rw (c.count-begun.ensures, c.before.begins.ensures, c.before.before.set-control.ensures)
 
-pub take-effect-spec : {M : Type 1} → statement M
-take-effect-spec = tie.close (tie.spec (λ c κs. tt) (λ c κs. tt) (λ c κs. tt) returns)
+pub take_effect_spec : {M : Type 1} → statement M
+take_effect_spec = tie.close (tie.spec (λ c κs. tt) (λ c κs. tt) (λ c κs. tt) returns)

@@ -13,5 +13,5 @@ returns-2 : tie.Need-returns-2
 unfolding held_effect
 returns-2 c = rw c.before.before.h.given.1 (search cases)
 
-pub take-held-spec : {M : Type 1} → statement M
-take-held-spec = tie.close (tie.spec (λ c. search rules) (λ c. search rules) (λ c κs. tt) returns returns-2)
+pub take_held_spec : {M : Type 1} → statement M
+take_held_spec = tie.close (tie.spec (λ c. search rules) (λ c. search rules) (λ c κs. tt) returns returns-2)

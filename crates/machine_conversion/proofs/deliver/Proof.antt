@@ -7,5 +7,5 @@ returns : tie.Need-returns
 unfolding delivering
 returns c = rw (c.count-delivered.ensures, c.before.is-unread.ensures, c.before.before.is-there.ensures)
 
-pub deliver-spec : {M : Type 1} → statement M
-deliver-spec = tie.close (tie.spec (λ c κs. tt) (λ c κs. tt) (λ c κs. tt) returns)
+pub deliver_spec : {M : Type 1} → statement M
+deliver_spec = tie.close (tie.spec (λ c κs. tt) (λ c κs. tt) (λ c κs. tt) returns)

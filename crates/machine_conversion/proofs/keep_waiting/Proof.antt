@@ -7,5 +7,5 @@ returns : tie.Need-returns
 unfolding keeping
 returns c = rw (c.count-overwritten.ensures, c.before.is-unread.ensures)
 
-pub keep-waiting-spec : {M : Type 1} → statement M
-keep-waiting-spec = tie.close (tie.spec (λ c κs. tt) (λ c κs. tt) returns)
+pub keep_waiting_spec : {M : Type 1} → statement M
+keep_waiting_spec = tie.close (tie.spec (λ c κs. tt) (λ c κs. tt) returns)

@@ -3,5 +3,5 @@ use Rattle.laws.specs.Cases.{cases}
 use Rattle.machine_conversion.proofs.land.Statement.{statement}
 use Rattle.machine_conversion.proofs.land.Tie as tie
 
-pub land-spec : {M : Type 1} → statement M
-land-spec = tie.close (tie.spec (λ c κs. tt) (λ c κs. tt) (λ c κs. tt) (λ c. search cases) (λ c. search cases))
+pub land_spec : {M : Type 1} → statement M
+land_spec = tie.close (tie.spec (λ c κs. tt) (λ c κs. tt) (λ c κs. tt) (λ c. search cases) (λ c. search cases))

@@ -7,5 +7,5 @@ returns : tie.Need-returns
 unfolding showing
 returns c = rw (c.count-overwritten.ensures, c.before.is-unread.ensures)
 
-pub show-spec : {M : Type 1} → statement M
-show-spec = tie.close (tie.spec (λ c κs. tt) (λ c κs. tt) returns)
+pub show_spec : {M : Type 1} → statement M
+show_spec = tie.close (tie.spec (λ c κs. tt) (λ c κs. tt) returns)

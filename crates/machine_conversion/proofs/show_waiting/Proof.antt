@@ -12,5 +12,5 @@ returns-2 : tie.Need-returns-2
 unfolding waiting_shown
 returns-2 c = search cases
 
-pub show-waiting-spec : {M : Type 1} → statement M
-show-waiting-spec = tie.close (tie.spec (λ c κs. tt) (λ c κs. tt) (λ c κs. tt) returns returns-2)
+pub show_waiting_spec : {M : Type 1} → statement M
+show_waiting_spec = tie.close (tie.spec (λ c κs. tt) (λ c κs. tt) (λ c κs. tt) returns returns-2)

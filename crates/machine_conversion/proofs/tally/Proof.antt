@@ -2,8 +2,8 @@
 use Rattle.machine_conversion.proofs.tally.Statement.{statement}
 use Rattle.machine_conversion.proofs.tally.Tie as tie
 
-pub tally-spec : {M : Type 1} → statement M
-tally-spec =
+pub tally_spec : {M : Type 1} → statement M
+tally_spec =
     tie.close
     (tie.spec
     (λ c κs. tt)

@@ -3,5 +3,5 @@ use borrow.Author.Rules.{rules}
 use Rattle.machine_counts.proofs.count_delivered.Statement.{statement}
 use Rattle.machine_counts.proofs.count_delivered.Tie as tie
 
-pub count-delivered-spec : {M : Type 1} → statement M
-count-delivered-spec = tie.close (tie.spec (λ c κs. tt) (λ c κs. tt) (λ c. cc) (λ c. search rules))
+pub count_delivered_spec : {M : Type 1} → statement M
+count_delivered_spec = tie.close (tie.spec (λ c κs. tt) (λ c κs. tt) (λ c. cc) (λ c. search rules))

@@ -3,5 +3,5 @@ use borrow.Author.Rules.{rules}
 use Rattle.machine_counts.proofs.count_overwritten.Statement.{statement}
 use Rattle.machine_counts.proofs.count_overwritten.Tie as tie
 
-pub count-overwritten-spec : {M : Type 1} → statement M
-count-overwritten-spec = tie.close (tie.spec (λ c κs. tt) (λ c κs. tt) (λ c. cc) (λ c. search rules))
+pub count_overwritten_spec : {M : Type 1} → statement M
+count_overwritten_spec = tie.close (tie.spec (λ c κs. tt) (λ c κs. tt) (λ c. cc) (λ c. search rules))

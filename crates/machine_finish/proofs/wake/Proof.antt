@@ -3,8 +3,8 @@ use Rattle.laws.specs.Cases.{cases}
 use Rattle.machine_finish.proofs.wake.Statement.{statement}
 use Rattle.machine_finish.proofs.wake.Tie as tie
 
-pub wake-spec : {M : Type 1} → statement M
-wake-spec =
+pub wake_spec : {M : Type 1} → statement M
+wake_spec =
     tie.close
     (tie.spec
     (λ c κs. tt)

@@ -20,8 +20,8 @@ element-copy-out-result c =
     let f = c.before.before.before in
     omega (arith, up-to-fe f.before.before.before.args.m.device.kind f.facts.result f.facts.ensures)
 
-pub data-at-spec : {M : Type 1} → statement M
-data-at-spec =
+pub data_at_spec : {M : Type 1} → statement M
+data_at_spec =
     tie.close
     (tie.spec
     (λ c. search cases)

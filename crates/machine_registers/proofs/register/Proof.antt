@@ -3,8 +3,8 @@ use Rattle.laws.specs.Cases.{cases}
 use Rattle.machine_registers.proofs.register.Statement.{statement}
 use Rattle.machine_registers.proofs.register.Tie as tie
 
-pub register-spec : {M : Type 1} → statement M
-register-spec =
+pub register_spec : {M : Type 1} → statement M
+register_spec =
     tie.close
     (tie.spec
     (λ c κs. tt)

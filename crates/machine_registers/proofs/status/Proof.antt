@@ -19,5 +19,5 @@ add-result c =
       at_most c.before.before.before.args.d.copying reg.status_copying c.bit2.result c.bit2.ensures,
     )
 
-pub status-spec : {M : Type 1} → statement M
-status-spec = tie.close (tie.spec (λ c κs. tt) (λ c κs. tt) (λ c κs. tt) add-result (λ c. rw (c.bit2.ensures, c.before.bit.ensures, c.before.before.is-running.ensures)))
+pub status_spec : {M : Type 1} → statement M
+status_spec = tie.close (tie.spec (λ c κs. tt) (λ c κs. tt) (λ c κs. tt) add-result (λ c. rw (c.bit2.ensures, c.before.bit.ensures, c.before.before.is-running.ensures)))

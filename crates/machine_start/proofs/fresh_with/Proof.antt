@@ -2,5 +2,5 @@
 use Rattle.machine_start.proofs.fresh_with.Statement.{statement}
 use Rattle.machine_start.proofs.fresh_with.Tie as tie
 
-pub fresh-with-spec : {M : Type 1} → statement M
-fresh-with-spec = tie.close (tie.spec (λ c κs. tt) (λ c. rw c.before.no-conversion.ensures))
+pub fresh_with_spec : {M : Type 1} → statement M
+fresh_with_spec = tie.close (tie.spec (λ c κs. tt) (λ c. rw c.before.no-conversion.ensures))

@@ -2,5 +2,5 @@
 use Rattle.machine_start.proofs.power.Statement.{statement}
 use Rattle.machine_start.proofs.power.Tie as tie
 
-pub power-spec : {M : Type 1} → statement M
-power-spec = tie.close (tie.spec (λ c κs. tt) (λ c κs. tt) (λ c. rw (c.answer.ensures, c.before.reset.ensures)))
+pub power_spec : {M : Type 1} → statement M
+power_spec = tie.close (tie.spec (λ c κs. tt) (λ c κs. tt) (λ c. rw (c.answer.ensures, c.before.reset.ensures)))

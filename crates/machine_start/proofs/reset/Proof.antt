@@ -2,8 +2,8 @@
 use Rattle.machine_start.proofs.reset.Statement.{statement}
 use Rattle.machine_start.proofs.reset.Tie as tie
 
-pub reset-spec : {M : Type 1} → statement M
-reset-spec =
+pub reset_spec : {M : Type 1} → statement M
+reset_spec =
     tie.close
     (tie.spec
     (λ c κs. tt)

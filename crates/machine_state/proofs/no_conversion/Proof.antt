@@ -2,5 +2,5 @@
 use Rattle.machine_state.proofs.no_conversion.Statement.{statement}
 use Rattle.machine_state.proofs.no_conversion.Tie as tie
 
-pub no-conversion-spec : {M : Type 1} → statement M
-no-conversion-spec = tie.close (tie.spec (λ c κs. tt) (λ c. rw (← c.before.facts.ensures)))
+pub no_conversion_spec : {M : Type 1} → statement M
+no_conversion_spec = tie.close (tie.spec (λ c κs. tt) (λ c. rw (← c.before.facts.ensures)))

@@ -58,8 +58,8 @@ returns c =
     none_left a.f4 a.t a.p a.h a.n l.i l.m l.seen l.lent (search rules)
     ∙ (l.invariant.1.1 ∙ ap (λ (o : Outcome). cycled a.n o.machine 0 a.f4 a.t a.p a.h a.lent.now) (k.copied.ensures ∙ ap copying_ended k.before.fresh.ensures))
 
-pub speed-cycles-spec : {M : Type 1} → statement M
-speed-cycles-spec =
+pub speed_cycles_spec : {M : Type 1} → statement M
+speed_cycles_spec =
     tie.close
     (tie.spec
     invariant-loop

@@ -11,5 +11,5 @@ returns c =
     let k = c.before.before.before in
     rw (one-calibration _ _ k.before.before.before.calibrate.ensures) at k.hand-compensated.ensures
 
-pub onegrish-compensate-spec : {M : Type 1} → statement M
-onegrish-compensate-spec = tie.close (tie.spec (λ c κs. search rules) (λ c κs. search rules) (λ c. search rules) (λ c. search rules) returns)
+pub onegrish_compensate_spec : {M : Type 1} → statement M
+onegrish_compensate_spec = tie.close (tie.spec (λ c κs. search rules) (λ c κs. search rules) (λ c. search rules) (λ c. search rules) returns)

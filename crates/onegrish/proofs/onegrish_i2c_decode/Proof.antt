@@ -7,6 +7,6 @@ use Rattle.onegrish.proofs.onegrish_i2c_decode.Tie as tie
 returns : tie.Need-returns
 returns c = rw (← c.before.before.before.before.before.decode-write.ensures) (beside-three c.hand-pairs.ensures)
 
-pub onegrish-i2c-decode-spec : {M : Type 1} → statement M
-onegrish-i2c-decode-spec =
+pub onegrish_i2c_decode_spec : {M : Type 1} → statement M
+onegrish_i2c_decode_spec =
     tie.close (tie.spec (λ c κs. search rules) (λ c κs. search rules) (λ c. search rules) returns)

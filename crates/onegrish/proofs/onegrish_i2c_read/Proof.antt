@@ -7,6 +7,6 @@ use Rattle.onegrish.proofs.onegrish_i2c_read.Tie as tie
 returns : tie.Need-returns
 returns c = rw (← c.before.before.before.before.encode-read.ensures) (beside c.hand-length.ensures)
 
-pub onegrish-i2c-read-spec : {M : Type 1} → statement M
-onegrish-i2c-read-spec =
+pub onegrish_i2c_read_spec : {M : Type 1} → statement M
+onegrish_i2c_read_spec =
     tie.close (tie.spec (λ c κs. search rules) (λ c κs. search rules) (λ c. search rules) returns)

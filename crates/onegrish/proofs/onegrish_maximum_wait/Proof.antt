@@ -6,5 +6,5 @@ use Rattle.onegrish.proofs.onegrish_maximum_wait.Tie as tie
 returns : tie.Need-returns
 returns c = rw (← c.before.before.estimate-wait.ensures) c.hand-wait.ensures
 
-pub onegrish-maximum-wait-spec : {M : Type 1} → statement M
-onegrish-maximum-wait-spec = tie.close (tie.spec (λ c κs. search rules) (λ c κs. search rules) returns)
+pub onegrish_maximum_wait_spec : {M : Type 1} → statement M
+onegrish_maximum_wait_spec = tie.close (tie.spec (λ c κs. search rules) (λ c κs. search rules) returns)

@@ -6,5 +6,5 @@ use Rattle.onegrish.proofs.onegrish_poll.Tie as tie
 returns : tie.Need-returns
 returns c = rw (← c.before.before.poll.ensures) c.hand-place.ensures
 
-pub onegrish-poll-spec : {M : Type 1} → statement M
-onegrish-poll-spec = tie.close (tie.spec (λ c κs. search rules) (λ c κs. search rules) returns)
+pub onegrish_poll_spec : {M : Type 1} → statement M
+onegrish_poll_spec = tie.close (tie.spec (λ c κs. search rules) (λ c κs. search rules) returns)

@@ -6,5 +6,5 @@ use Rattle.onegrish.proofs.onegrish_polls.Tie as tie
 returns : tie.Need-returns
 returns c = rw (← c.before.poll.ensures) c.polls-made.ensures
 
-pub onegrish-polls-spec : {M : Type 1} → statement M
-onegrish-polls-spec = tie.close (tie.spec (λ c κs. search rules) (λ c κs. search rules) returns)
+pub onegrish_polls_spec : {M : Type 1} → statement M
+onegrish_polls_spec = tie.close (tie.spec (λ c κs. search rules) (λ c κs. search rules) returns)

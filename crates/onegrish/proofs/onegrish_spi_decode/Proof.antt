@@ -7,6 +7,6 @@ use Rattle.onegrish.proofs.onegrish_spi_decode.Tie as tie
 returns : tie.Need-returns
 returns c = rw (← c.before.before.before.before.decode-write.ensures) (beside c.hand-pairs-length.ensures)
 
-pub onegrish-spi-decode-spec : {M : Type 1} → statement M
-onegrish-spi-decode-spec =
+pub onegrish_spi_decode_spec : {M : Type 1} → statement M
+onegrish_spi_decode_spec =
     tie.close (tie.spec (λ c κs. search rules) (λ c κs. search rules) (λ c. search rules) returns)

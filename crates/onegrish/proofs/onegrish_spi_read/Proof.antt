@@ -7,6 +7,6 @@ use Rattle.onegrish.proofs.onegrish_spi_read.Tie as tie
 returns : tie.Need-returns
 returns c = rw (← c.before.before.before.before.encode-read.ensures) (beside c.hand-length.ensures)
 
-pub onegrish-spi-read-spec : {M : Type 1} → statement M
-onegrish-spi-read-spec =
+pub onegrish_spi_read_spec : {M : Type 1} → statement M
+onegrish_spi_read_spec =
     tie.close (tie.spec (λ c κs. search rules) (λ c κs. search rules) (λ c. search rules) returns)

@@ -7,6 +7,6 @@ use Rattle.onegrish.proofs.onegrish_spi_write.Tie as tie
 returns : tie.Need-returns
 returns c = rw (← c.before.before.before.before.encode-write.ensures) (beside c.hand-length.ensures)
 
-pub onegrish-spi-write-spec : {M : Type 1} → statement M
-onegrish-spi-write-spec =
+pub onegrish_spi_write_spec : {M : Type 1} → statement M
+onegrish_spi_write_spec =
     tie.close (tie.spec (λ c κs. search rules) (λ c κs. search rules) (λ c. search rules) returns)

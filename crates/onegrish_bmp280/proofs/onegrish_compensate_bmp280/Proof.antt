@@ -9,6 +9,6 @@ returns c =
     let k = c.before.before.before in
     rw (one-reading _ _ k.before.before.before.compensate.ensures) at k.hand-reading.ensures
 
-pub onegrish-compensate-bmp280-spec : {M : Type 1} → statement M
-onegrish-compensate-bmp280-spec =
+pub onegrish_compensate_bmp280_spec : {M : Type 1} → statement M
+onegrish_compensate_bmp280_spec =
     tie.close (tie.spec (λ c κs. search rules) (λ c κs. search rules) (λ c. search rules) (λ c. search rules) returns)

@@ -15,8 +15,8 @@ returns-2 c =
     let h : Fits w32 c.before.answer2.given.0.0 = search rules in
     rw (to_z_pos w64 {n = c.before.answer2.given.0.0} (omega (arith, h.fits)), c.before.answer2.given.1)
 
-pub hand-channel-spec : {M : Type 1} → statement M
-hand-channel-spec =
+pub hand_channel_spec : {M : Type 1} → statement M
+hand_channel_spec =
     tie.close
     (tie.spec
     (λ c. search rules)

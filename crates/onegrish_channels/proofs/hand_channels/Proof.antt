@@ -25,8 +25,8 @@ returns c =
     let h = c.before.hand-channel2.ensures in
     rw (ap number t, ap number p, ap number h, ap left h, ap left p, ap left t)
 
-pub hand-channels-spec : {M : Type 1} → statement M
-hand-channels-spec =
+pub hand_channels_spec : {M : Type 1} → statement M
+hand_channels_spec =
     tie.close
     (tie.spec
     (λ c κs. search rules)

@@ -25,8 +25,8 @@ returns-3 c = rw c.before.before.before.answer2.given.1 (search cases)
 returns-4 : tie.Need-returns-4
 returns-4 c = rw c.before.before.answer2.given.1 (search cases)
 
-pub hand-reading-spec : {M : Type 1} → statement M
-hand-reading-spec =
+pub hand_reading_spec : {M : Type 1} → statement M
+hand_reading_spec =
     tie.close
     (tie.spec
     (λ c. search rules)

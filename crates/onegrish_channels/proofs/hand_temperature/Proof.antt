@@ -36,8 +36,8 @@ returns-2 c =
       c.before.answer2.given.1,
     )
 
-pub hand-temperature-spec : {M : Type 1} → statement M
-hand-temperature-spec =
+pub hand_temperature_spec : {M : Type 1} → statement M
+hand_temperature_spec =
     tie.close
     (tie.spec
     (λ c. search rules)

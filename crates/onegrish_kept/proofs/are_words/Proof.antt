@@ -13,5 +13,5 @@ returns c =
     let d : SFits w16 c.word-at3.result = search rules in
     cc (to_z-of_z a, to_z-of_z b, to_z-of_z d)
 
-pub are-words-spec : {M : Type 1} → statement M
-are-words-spec = tie.close (tie.spec (λ c κs. search rules) (λ c κs. search rules) (λ c κs. search rules) returns)
+pub are_words_spec : {M : Type 1} → statement M
+are_words_spec = tie.close (tie.spec (λ c κs. search rules) (λ c κs. search rules) (λ c κs. search rules) returns)

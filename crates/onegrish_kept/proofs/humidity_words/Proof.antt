@@ -36,8 +36,8 @@ returns c =
     let b = bytes-at c.before.before.before.before.before.before in
     cc (to_z-of_z h1, to_z-of_z h2, to_z-of_z h3, to_z-of_z h4, to_z-of_z h5, to_z-of_z h6, to_z-of_z b.h6)
 
-pub humidity-words-spec : {M : Type 1} → statement M
-humidity-words-spec =
+pub humidity_words_spec : {M : Type 1} → statement M
+humidity_words_spec =
     tie.close
     (tie.spec
     (λ c κs. search rules)

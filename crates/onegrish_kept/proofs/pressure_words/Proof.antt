@@ -19,8 +19,8 @@ returns c =
     let h9 : SFits w16 c.word-at9.result = search rules in
     cc (to_z-of_z h1, to_z-of_z h2, to_z-of_z h3, to_z-of_z h4, to_z-of_z h5, to_z-of_z h6, to_z-of_z h7, to_z-of_z h8, to_z-of_z h9)
 
-pub pressure-words-spec : {M : Type 1} → statement M
-pressure-words-spec =
+pub pressure_words_spec : {M : Type 1} → statement M
+pressure_words_spec =
     tie.close
     (tie.spec
     (λ c κs. search rules)

@@ -26,5 +26,5 @@ returns-3 c =
     ap calibration_answer
     (rw (c.humidity-words.ensures, c.before.pressure-words.ensures, c.before.before.temperature-words.ensures) (search cases))
 
-pub take-words-spec : {M : Type 1} → statement M
-take-words-spec = tie.close (tie.spec returns (λ c κs. search rules) returns-2 (λ c κs. search rules) (λ c κs. search rules) humidity-words-requires returns-3)
+pub take_words_spec : {M : Type 1} → statement M
+take_words_spec = tie.close (tie.spec returns (λ c κs. search rules) returns-2 (λ c κs. search rules) (λ c κs. search rules) humidity-words-requires returns-3)

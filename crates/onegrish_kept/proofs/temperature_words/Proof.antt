@@ -13,5 +13,5 @@ returns c =
     let h3 : SFits w16 c.word-at3.result = search rules in
     cc (to_z-of_z h1, to_z-of_z h2, to_z-of_z h3)
 
-pub temperature-words-spec : {M : Type 1} → statement M
-temperature-words-spec = tie.close (tie.spec (λ c κs. search rules) (λ c κs. search rules) (λ c κs. search rules) (λ c κs. search rules) returns)
+pub temperature_words_spec : {M : Type 1} → statement M
+temperature_words_spec = tie.close (tie.spec (λ c κs. search rules) (λ c κs. search rules) (λ c κs. search rules) (λ c κs. search rules) returns)

@@ -39,5 +39,5 @@ returns c =
 returns-2 : tie.Need-returns-2
 returns-2 c = rw (to_z-of_z c.before.ranges.word) (other c).1.1
 
-pub without-sign-spec : {M : Type 1} → statement M
-without-sign-spec = tie.close (tie.spec cast-result add-result cast-result-2 cast-result-3 returns returns-2)
+pub without_sign_spec : {M : Type 1} → statement M
+without_sign_spec = tie.close (tie.spec cast-result add-result cast-result-2 cast-result-3 returns returns-2)

@@ -9,5 +9,5 @@ returns c = rw c.before.known.given.1
 returns-2 : tie.Need-returns-2
 returns-2 c = rw c.before.before.before.before.known2.given.1 c.before.lay-words.ensures
 
-pub hand-words-spec : {M : Type 1} → statement M
-hand-words-spec = tie.close (tie.spec (λ c. search rules) (λ c. search rules) (λ c κs. search rules) returns (λ c. search rules) returns-2)
+pub hand_words_spec : {M : Type 1} → statement M
+hand_words_spec = tie.close (tie.spec (λ c. search rules) (λ c. search rules) (λ c κs. search rules) returns (λ c. search rules) returns-2)

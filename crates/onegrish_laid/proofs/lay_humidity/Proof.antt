@@ -39,5 +39,5 @@ returns c =
       to_z-of_z (sfits_widen {w' = w16} tt l.2),
     )
 
-pub lay-humidity-spec : {M : Type 1} → statement M
-lay-humidity-spec = tie.close (tie.spec (λ c. search rules) (λ c. search rules) (λ c κs. search rules) cast-lay-three-3 (λ c κs. search rules) (λ c. search rules) returns)
+pub lay_humidity_spec : {M : Type 1} → statement M
+lay_humidity_spec = tie.close (tie.spec (λ c. search rules) (λ c. search rules) (λ c κs. search rules) cast-lay-three-3 (λ c κs. search rules) (λ c. search rules) returns)

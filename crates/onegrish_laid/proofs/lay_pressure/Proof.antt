@@ -42,5 +42,5 @@ returns c =
       to_z-of_z l.3,
     )
 
-pub lay-pressure-spec : {M : Type 1} → statement M
-lay-pressure-spec = tie.close (tie.spec (λ c κs. search rules) (λ c κs. search rules) (λ c κs. search rules) lay-three-requires-3 (λ c. search rules) returns)
+pub lay_pressure_spec : {M : Type 1} → statement M
+lay_pressure_spec = tie.close (tie.spec (λ c κs. search rules) (λ c κs. search rules) (λ c κs. search rules) lay-three-requires-3 (λ c. search rules) returns)

@@ -15,5 +15,5 @@ returns c =
     let h : SFits w16 c.before.before.before.before.before.with-sign.result = search rules in
     rw (c.before.lay-three.ensures, to_z-of_z h, c.before.before.before.before.before.with-sign.ensures, to_z-of_z f.0, to_z-of_z f.1)
 
-pub lay-temperature-spec : {M : Type 1} → statement M
-lay-temperature-spec = tie.close (tie.spec (λ c κs. search rules) (λ c κs. search rules) (λ c. search rules) returns)
+pub lay_temperature_spec : {M : Type 1} → statement M
+lay_temperature_spec = tie.close (tie.spec (λ c κs. search rules) (λ c κs. search rules) (λ c. search rules) returns)

@@ -16,8 +16,8 @@ returns c =
     let e : c.args.k + 1 + 1 ≡ c.args.k + 2 = omega arith in
     rw (e, to_z-of_z c.ranges.a, to_z-of_z c.ranges.b, to_z-of_z c.ranges.c)
 
-pub lay-three-spec : {M : Type 1} → statement M
-lay-three-spec =
+pub lay_three_spec : {M : Type 1} → statement M
+lay_three_spec =
     tie.close
     (tie.spec
     (λ c. search rules)

@@ -13,5 +13,5 @@ returns c =
 returns-2 : tie.Need-returns-2
 returns-2 c = search cases
 
-pub lay-words-spec : {M : Type 1} → statement M
-lay-words-spec = tie.close (tie.spec (λ c κs. search rules) (λ c κs. search rules) (λ c κs. search rules) (λ c. search rules) returns returns-2)
+pub lay_words_spec : {M : Type 1} → statement M
+lay_words_spec = tie.close (tie.spec (λ c κs. search rules) (λ c κs. search rules) (λ c κs. search rules) (λ c. search rules) returns returns-2)

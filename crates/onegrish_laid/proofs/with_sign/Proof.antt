@@ -23,5 +23,5 @@ returns-2 : tie.Need-returns-2
 returns-2 c =
     rw ((high c).read, to_z-of_z (high c).in-wide, to_z-of_z (high c).in-own, signed_high 0x8000 c.before.args.word c.if1.false)
 
-pub with-sign-spec : {M : Type 1} → statement M
-with-sign-spec = tie.close (tie.spec (λ c. search rules) (λ c. search rules) sub-result cast-result-3 returns returns-2)
+pub with_sign_spec : {M : Type 1} → statement M
+with_sign_spec = tie.close (tie.spec (λ c. search rules) (λ c. search rules) sub-result cast-result-3 returns returns-2)

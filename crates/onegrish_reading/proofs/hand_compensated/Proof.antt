@@ -27,8 +27,8 @@ returns-2 c =
     let left = rw w.before.if1.false at f.hand.ensures in
     rw (one-reading _ _ w.compensate-with.ensures, ap first left, ap second left) at k.hand-reading.ensures
 
-pub hand-compensated-spec : {M : Type 1} → statement M
-hand-compensated-spec =
+pub hand_compensated_spec : {M : Type 1} → statement M
+hand_compensated_spec =
     tie.close
     (tie.spec
     (λ c κs. search rules)

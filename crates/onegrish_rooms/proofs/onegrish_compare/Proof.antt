@@ -16,7 +16,7 @@ returns c =
       to_z-of_z s.ranges.there-value,
     )
 
-pub onegrish-compare-spec : {M : Type 1} → statement M
-onegrish-compare-spec =
+pub onegrish_compare_spec : {M : Type 1} → statement M
+onegrish_compare_spec =
     tie.close
     (tie.spec (λ c κs. search rules) (λ c κs. search rules) (λ c κs. search rules) (λ c κs. search rules) returns)

@@ -14,8 +14,8 @@ returns c =
       one-reading _ _ rooms.before.before.compensate.ensures,
     ) at handed.hand-verdicts.ensures
 
-pub onegrish-compare-rooms-spec : {M : Type 1} → statement M
-onegrish-compare-rooms-spec =
+pub onegrish_compare_rooms_spec : {M : Type 1} → statement M
+onegrish_compare_rooms_spec =
     tie.close
     (tie.spec
     (λ c κs. search rules)

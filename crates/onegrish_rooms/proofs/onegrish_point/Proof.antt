@@ -10,8 +10,8 @@ returns c =
     let marked = handed.before.before.before.before in
     rw (marked.mark.ensures, one-reading _ _ marked.before.compensate.ensures) at handed.hand-marks.ensures
 
-pub onegrish-point-spec : {M : Type 1} → statement M
-onegrish-point-spec =
+pub onegrish_point_spec : {M : Type 1} → statement M
+onegrish_point_spec =
     tie.close
     (tie.spec
     (λ c κs. search rules)

@@ -14,8 +14,8 @@ returns c =
     )
     (beside c.hand-count.ensures)
 
-pub onegrish-visit-read-spec : {M : Type 1} → statement M
-onegrish-visit-read-spec =
+pub onegrish_visit_read_spec : {M : Type 1} → statement M
+onegrish_visit_read_spec =
     tie.close
     (tie.spec
     (λ c κs. search rules)

@@ -19,8 +19,8 @@ returns c =
     )
     c.refusal-value.ensures
 
-pub onegrish-visit-read-offset-spec : {M : Type 1} → statement M
-onegrish-visit-read-offset-spec =
+pub onegrish_visit_read_offset_spec : {M : Type 1} → statement M
+onegrish_visit_read_offset_spec =
     tie.close
     (tie.spec
     (λ c. search rules)

@@ -14,8 +14,8 @@ returns c =
     )
     (beside c.hand-count.ensures)
 
-pub onegrish-visit-write-spec : {M : Type 1} → statement M
-onegrish-visit-write-spec =
+pub onegrish_visit_write_spec : {M : Type 1} → statement M
+onegrish_visit_write_spec =
     tie.close
     (tie.spec
     (λ c κs. search rules)

@@ -19,8 +19,8 @@ returns c =
     )
     c.refusal-value.ensures
 
-pub onegrish-visit-write-place-spec : {M : Type 1} → statement M
-onegrish-visit-write-place-spec =
+pub onegrish_visit_write_place_spec : {M : Type 1} → statement M
+onegrish_visit_write_place_spec =
     tie.close
     (tie.spec
     (λ c. search rules)

@@ -17,7 +17,7 @@ returns-2 : tie.Need-returns-2
 unfolding compensated_kept
 returns-2 c = rw (ne_eqb _ _ c.if1.false)
 
-pub onegrish-compensate-words-spec : {M : Type 1} → statement M
-onegrish-compensate-words-spec =
+pub onegrish_compensate_words_spec : {M : Type 1} → statement M
+onegrish_compensate_words_spec =
     tie.close
     (tie.spec (λ c κs. search rules) (λ c κs. search rules) (λ c. search rules) (λ c. search rules) returns returns-2)

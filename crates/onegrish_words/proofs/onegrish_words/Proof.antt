@@ -7,6 +7,6 @@ use Rattle.onegrish_words.proofs.onegrish_words.Tie as tie
 returns : tie.Need-returns
 returns c = rw (← one-calibration _ _ c.before.before.before.calibrate.ensures) c.before.hand-words.ensures
 
-pub onegrish-words-spec : {M : Type 1} → statement M
-onegrish-words-spec =
+pub onegrish_words_spec : {M : Type 1} → statement M
+onegrish_words_spec =
     tie.close (tie.spec (λ c κs. search rules) (λ c κs. search rules) (λ c. search rules) returns)

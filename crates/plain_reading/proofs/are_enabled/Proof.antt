@@ -6,5 +6,5 @@ use Rattle.plain_reading.proofs.are_enabled.Tie as tie
 returns : tie.Need-returns
 returns c = rw c.are-codes.ensures
 
-pub are-enabled-spec : {M : Type 1} → statement M
-are-enabled-spec = tie.close (tie.spec (λ c κs. search rules) returns)
+pub are_enabled_spec : {M : Type 1} → statement M
+are_enabled_spec = tie.close (tie.spec (λ c κs. search rules) returns)

@@ -50,8 +50,8 @@ returns-4 c =
     (all-taken _ _ _ t.temperature-plainly.ensures (not-false _ on-t.if1.false) _ (rw fine at p.pressure-plainly.ensures)
     (not-false _ on-p.if2.false) _ (rw fine at h.humidity-plainly.ensures) (not-false _ on-h.if3.false))
 
-pub read-counts-spec : {M : Type 1} → statement M
-read-counts-spec =
+pub read_counts_spec : {M : Type 1} → statement M
+read_counts_spec =
     tie.close
     (tie.spec
     (λ c κs. search rules)

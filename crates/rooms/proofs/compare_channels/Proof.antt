@@ -12,5 +12,5 @@ returns-2 c =
     let fits : SFits w64 told.0.0 = search rules in
     rw (c.compare-with.ensures, to_z-of_z fits, told.1)
 
-pub compare-channels-spec : {M : Type 1} → statement M
-compare-channels-spec = tie.close (tie.spec (λ c. search rules) (λ c. search rules) (λ c κs. search rules) (λ c. search rules) returns-2)
+pub compare_channels_spec : {M : Type 1} → statement M
+compare_channels_spec = tie.close (tie.spec (λ c. search rules) (λ c. search rules) (λ c κs. search rules) (λ c. search rules) returns-2)

@@ -12,5 +12,5 @@ returns c =
       c.before.before.before.of.ensures,
     )
 
-pub make-cells-spec : {M : Type 1} → statement M
-make-cells-spec = tie.close (tie.spec (λ c κs. search rules) (λ c κs. search rules) (λ c κs. search rules) (λ c κs. search rules) returns)
+pub make_cells_spec : {M : Type 1} → statement M
+make_cells_spec = tie.close (tie.spec (λ c κs. search rules) (λ c κs. search rules) (λ c κs. search rules) (λ c κs. search rules) returns)

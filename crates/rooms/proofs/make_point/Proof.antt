@@ -6,5 +6,5 @@ use Rattle.rooms.proofs.make_point.Tie as tie
 returns : tie.Need-returns
 returns c = rw (c.lay.ensures, c.before.make-cells.ensures)
 
-pub make-point-spec : {M : Type 1} → statement M
-make-point-spec = tie.close (tie.spec (λ c κs. search rules) (λ c κs. search rules) returns)
+pub make_point_spec : {M : Type 1} → statement M
+make_point_spec = tie.close (tie.spec (λ c κs. search rules) (λ c κs. search rules) returns)

@@ -44,8 +44,8 @@ returns-4 : tie.Need-returns-4
 unfolding lead
 returns-4 c = rw c.enum-told3.given.1 (over_nothing _ _)
 
-pub lay-spec : {M : Type 1} → statement M
-lay-spec =
+pub lay_spec : {M : Type 1} → statement M
+lay_spec =
     tie.close
     (tie.spec
     enum_told

@@ -23,6 +23,6 @@ returns-3 c =
     let room = c.before.before.before.before in
     with-room _ _ _ _ _ _ room.before.before.if1.false room.before.size.ensures room.if2.false c.before.before.lay.ensures
 
-pub lay-back-spec : {M : Type 1} → statement M
-lay-back-spec =
+pub lay_back_spec : {M : Type 1} → statement M
+lay_back_spec =
     tie.close (tie.spec returns size-requires returns-2 lay-requires same_length returns-3)

@@ -32,8 +32,8 @@ returns-3 c = rw (c.before.enum-told3.given.1, c.up.ensures)
 returns-4 : tie.Need-returns-4
 returns-4 c = rw c.enum-told4.given.1
 
-pub from-groups-spec : {M : Type 1} → statement M
-from-groups-spec =
+pub from_groups_spec : {M : Type 1} → statement M
+from_groups_spec =
     tie.close
     (tie.spec
     enum_told

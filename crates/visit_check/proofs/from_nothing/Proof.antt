@@ -32,8 +32,8 @@ returns-3 c = rw c.enum-told2.given.1
 returns-4 : tie.Need-returns-4
 returns-4 c = rw c.enum-told3.given.1
 
-pub from-nothing-spec : {M : Type 1} → statement M
-from-nothing-spec =
+pub from_nothing_spec : {M : Type 1} → statement M
+from_nothing_spec =
     tie.close
     (tie.spec
     enum_told

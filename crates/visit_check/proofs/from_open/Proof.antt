@@ -29,8 +29,8 @@ returns-2 c = rw c.before.enum-told2.given.1 c.from-groups.ensures
 returns-3 : tie.Need-returns-3
 returns-3 c = rw c.before.enum-told3.given.1 c.from-slot.ensures
 
-pub from-open-spec : {M : Type 1} → statement M
-from-open-spec =
+pub from_open_spec : {M : Type 1} → statement M
+from_open_spec =
     tie.close
     (tie.spec
     enum_told

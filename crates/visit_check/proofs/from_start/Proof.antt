@@ -26,7 +26,7 @@ returns-3 c = rw c.enum-told3.given.1
 returns-4 : tie.Need-returns-4
 returns-4 c = rw c.enum-told4.given.1
 
-pub from-start-spec : {M : Type 1} → statement M
-from-start-spec =
+pub from_start_spec : {M : Type 1} → statement M
+from_start_spec =
     tie.close
     (tie.spec enum_told enum-told-2 enum-told-3 enum-told-4 returns returns-2 returns-3 returns-4)

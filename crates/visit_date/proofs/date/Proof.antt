@@ -8,5 +8,5 @@ returns : tie.Need-returns
 unfolding date
 returns c = rw (c.before.walk-months.ensures, c.before.before.walk-years.ensures)
 
-pub date-spec : {M : Type 1} → statement M
-date-spec = tie.close (tie.spec (λ c κs. tt) (λ c κs. tt) (λ c. search rules) returns)
+pub date_spec : {M : Type 1} → statement M
+date_spec = tie.close (tie.spec (λ c κs. tt) (λ c κs. tt) (λ c. search rules) returns)

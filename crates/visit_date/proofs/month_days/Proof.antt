@@ -26,6 +26,6 @@ returns-3 : tie.Need-returns-3
 unfolding month_days
 returns-3 c = search cases
 
-pub month-days-spec : {M : Type 1} → statement M
-month-days-spec =
+pub month_days_spec : {M : Type 1} → statement M
+month_days_spec =
     tie.close (tie.spec add-result add-result-2 returns is-leap-requires returns-2 returns-3)

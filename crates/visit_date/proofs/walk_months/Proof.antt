@@ -29,8 +29,8 @@ loop-again c =
 returns-2 : tie.Need-returns-2 invariant-loop decreases-loop
 returns-2 c = ended _ _ _ _ _ c.loop-test.false c.before.loop.invariant.1
 
-pub walk-months-spec : {M : Type 1} → statement M
-walk-months-spec =
+pub walk_months_spec : {M : Type 1} → statement M
+walk_months_spec =
     tie.close
     (tie.spec
     invariant-loop

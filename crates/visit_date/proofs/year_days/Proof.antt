@@ -12,5 +12,5 @@ returns-2 : tie.Need-returns-2
 unfolding year_days
 returns-2 c = search cases
 
-pub year-days-spec : {M : Type 1} → statement M
-year-days-spec = tie.close (tie.spec (λ c κs. tt) returns returns-2)
+pub year_days_spec : {M : Type 1} → statement M
+year_days_spec = tie.close (tie.spec (λ c κs. tt) returns returns-2)

@@ -11,8 +11,8 @@ returns c = cut-body _ _ _ _ _ (omega arith) (omega arith) c.if1.true
 returns-2 : tie.Need-returns-2
 returns-2 c = whole-field _ _ _ _ _ (omega arith) _ _ (omega arith) c.before.before.before.if1.false c.before.kind-of.ensures c.by_kind.ensures
 
-pub field-of-spec : {M : Type 1} → statement M
-field-of-spec =
+pub field_of_spec : {M : Type 1} → statement M
+field_of_spec =
     tie.close
     (tie.spec
     (λ c. search rules)

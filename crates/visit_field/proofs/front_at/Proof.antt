@@ -17,5 +17,5 @@ returns-2 : tie.Need-returns-2
 unfolding front_at
 returns-2 c = search cases
 
-pub front-at-spec : {M : Type 1} → statement M
-front-at-spec = tie.close (tie.spec (λ c κs. search rules) field-of-requires returns returns-2)
+pub front_at_spec : {M : Type 1} → statement M
+front_at_spec = tie.close (tie.spec (λ c κs. search rules) field-of-requires returns returns-2)

@@ -15,5 +15,5 @@ returns-2 c = rw (le-leb _ _ c.before.if1.false, lt-leb (c.before.before.args.at
 returns-3 : tie.Need-returns-3
 returns-3 c = rw (le-leb _ _ c.before.if1.false) (same-header _ _ c.if2.false)
 
-pub header-fits-spec : {M : Type 1} → statement M
-header-fits-spec = tie.close (tie.spec returns returns-2 returns-3)
+pub header_fits_spec : {M : Type 1} → statement M
+header_fits_spec = tie.close (tie.spec returns returns-2 returns-3)

@@ -27,8 +27,8 @@ returns-2 c =
     let n = b.before.before in
     rw (ne_eqb _ 0 n.if1.false) (joined _ _ _ n.before.before.before.write-decimal.ensures (first _ _ _ b.write_byte.ensures p.write-part.ensures))
 
-pub write-amount-spec : {M : Type 1} → statement M
-write-amount-spec =
+pub write_amount_spec : {M : Type 1} → statement M
+write_amount_spec =
     tie.close
     (tie.spec
     (λ c. search rules)

@@ -17,8 +17,8 @@ returns-2 c =
     let b = m.before.before.before.before in
     rw (le-ltb _ _ b.before.before.if1.false) (first _ _ _ b.write_byte.ensures m.write-hundredths2.ensures)
 
-pub write-degrees-spec : {M : Type 1} → statement M
-write-degrees-spec =
+pub write_degrees_spec : {M : Type 1} → statement M
+write_degrees_spec =
     tie.close
     (tie.spec
     (λ c κs. search rules)

@@ -9,8 +9,8 @@ returns : tie.Need-returns
 unfolding humidity
 returns c = joined _ _ _ c.before.before.before.before.before.before.before.write-percent.ensures c.before.before.write-text.ensures
 
-pub write-humidity-spec : {M : Type 1} → statement M
-write-humidity-spec =
+pub write_humidity_spec : {M : Type 1} → statement M
+write_humidity_spec =
     tie.close
     (tie.spec
     (λ c κs. tt)

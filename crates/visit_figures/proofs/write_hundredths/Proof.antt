@@ -8,7 +8,7 @@ returns : tie.Need-returns
 unfolding hundredths
 returns c = c.before.before.fill.ensures
 
-pub write-hundredths-spec : {M : Type 1} → statement M
-write-hundredths-spec =
+pub write_hundredths_spec : {M : Type 1} → statement M
+write_hundredths_spec =
     tie.close
     (tie.spec (λ c. search rules) (λ c. search rules) (λ c κs. search rules) (λ c. search rules) returns)

@@ -61,8 +61,8 @@ same-length-2 c = omega arith
 returns-2 : tie.Need-returns-2 invariant-loop decreases-loop
 returns-2 c = ended _ _ _ _ _ c.before.loop.invariant.2 c.loop-test.false
 
-pub write-part-spec : {M : Type 1} → statement M
-write-part-spec =
+pub write_part_spec : {M : Type 1} → statement M
+write_part_spec =
     tie.close
     (tie.spec
     invariant-loop

@@ -8,5 +8,5 @@ returns : tie.Need-returns
 unfolding pascals
 returns c = c.before.before.write-amount.ensures
 
-pub write-pascals-spec : {M : Type 1} → statement M
-write-pascals-spec = tie.close (tie.spec (λ c κs. search rules) (λ c. search rules) returns)
+pub write_pascals_spec : {M : Type 1} → statement M
+write_pascals_spec = tie.close (tie.spec (λ c κs. search rules) (λ c. search rules) returns)

@@ -8,5 +8,5 @@ returns : tie.Need-returns
 unfolding percent
 returns c = c.before.before.write-amount.ensures
 
-pub write-percent-spec : {M : Type 1} → statement M
-write-percent-spec = tie.close (tie.spec (λ c κs. search rules) (λ c. search rules) returns)
+pub write_percent_spec : {M : Type 1} → statement M
+write_percent_spec = tie.close (tie.spec (λ c κs. search rules) (λ c. search rules) returns)

@@ -9,8 +9,8 @@ returns : tie.Need-returns
 unfolding pressure
 returns c = joined _ _ _ c.before.before.before.before.before.before.before.write-pascals.ensures c.before.before.write-text.ensures
 
-pub write-pressure-spec : {M : Type 1} → statement M
-write-pressure-spec =
+pub write_pressure_spec : {M : Type 1} → statement M
+write_pressure_spec =
     tie.close
     (tie.spec
     (λ c κs. tt)

@@ -32,8 +32,8 @@ returns-6 c =
     let n = c.match.rest in
     rw (ne_eqb _ 10 n.0.0.0.0.1, ne_eqb _ 11 n.0.0.0.1, ne_eqb _ 12 n.0.0.1, ne_eqb _ 13 n.0.1, ne_eqb _ 14 n.1)
 
-pub write-reason-spec : {M : Type 1} → statement M
-write-reason-spec =
+pub write_reason_spec : {M : Type 1} → statement M
+write_reason_spec =
     tie.close
     (tie.spec
     (λ c. search rules)

@@ -9,8 +9,8 @@ returns : tie.Need-returns
 unfolding temperature
 returns c = joined _ _ _ c.before.before.before.before.before.before.before.write-degrees.ensures c.before.before.write-text.ensures
 
-pub write-temperature-spec : {M : Type 1} → statement M
-write-temperature-spec =
+pub write_temperature_spec : {M : Type 1} → statement M
+write_temperature_spec =
     tie.close
     (tie.spec
     (λ c κs. tt)

@@ -33,8 +33,8 @@ same-length-2 c = omega (arith, c.before.before.end.auto.1.0)
 returns-2 : tie.Need-returns-2 invariant-loop decreases-loop
 returns-2 c = tt
 
-pub take-lines-spec : {M : Type 1} → statement M
-take-lines-spec =
+pub take_lines_spec : {M : Type 1} → statement M
+take_lines_spec =
     tie.close
     (tie.spec
     invariant-loop

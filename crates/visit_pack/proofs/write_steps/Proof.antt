@@ -8,8 +8,8 @@ use Rattle.visit_pack.proofs.write_steps.Tie as tie
 slice-aggregate-write-record : tie.Need-slice-aggregate-write-record
 slice-aggregate-write-record c = simp length-take (omega arith)
 
-pub write-steps-spec : {M : Type 1} → statement M
-write-steps-spec =
+pub write_steps_spec : {M : Type 1} → statement M
+write_steps_spec =
     tie.close
     (tie.spec
     (λ c κs. tt)

@@ -20,8 +20,8 @@ returns-4 : tie.Need-returns-4
 unfolding after
 returns-4 c = rw c.enum-told4.given.1
 
-pub after-spec : {M : Type 1} → statement M
-after-spec =
+pub after_spec : {M : Type 1} → statement M
+after_spec =
     tie.close
     (tie.spec
     (λ c. search rules)

@@ -18,8 +18,8 @@ returns-2 c =
     let e : p.level - 1 ≡ p.level = omega arith in
     rw e
 
-pub back-spec : {M : Type 1} → statement M
-back-spec =
+pub back_spec : {M : Type 1} → statement M
+back_spec =
     tie.close
     (tie.spec
     (λ c. search rules)

@@ -26,8 +26,8 @@ returns-5 c =
     let n = c.match.rest in
     rw (ne_eqb _ 0 n.0.0.0.1, ne_eqb _ 1 n.0.0.1, ne_eqb _ 2 n.0.1, ne_eqb _ 3 n.1)
 
-pub deeper-spec : {M : Type 1} → statement M
-deeper-spec =
+pub deeper_spec : {M : Type 1} → statement M
+deeper_spec =
     tie.close
     (tie.spec
     (λ c κs. tt)

@@ -26,8 +26,8 @@ returns-5 c =
     let n = c.match.rest in
     rw (ne_eqb _ 1 n.0.0.0.1, ne_eqb _ 2 n.0.0.1, ne_eqb _ 3 n.0.1, ne_eqb _ 4 n.1)
 
-pub number-spec : {M : Type 1} → statement M
-number-spec =
+pub number_spec : {M : Type 1} → statement M
+number_spec =
     tie.close
     (tie.spec
     returns

@@ -13,8 +13,8 @@ returns-2 : tie.Need-returns-2
 unfolding one_more
 returns-2 c = search cases
 
-pub one-more-spec : {M : Type 1} → statement M
-one-more-spec =
+pub one_more_spec : {M : Type 1} → statement M
+one_more_spec =
     tie.close
     (tie.spec
     (λ c. search rules)

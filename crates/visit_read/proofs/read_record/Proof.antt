@@ -29,8 +29,8 @@ returns-4 c =
     let known = c.before.c2.given.1 in
     (visit-refused _ _ short _ _ counted.count.ensures _ _ known, refusal-told _ _ short _ _ counted.count.ensures _ _ known)
 
-pub read-record-spec : {M : Type 1} → statement M
-read-record-spec =
+pub read_record_spec : {M : Type 1} → statement M
+read_record_spec =
     tie.close
     (tie.spec
     returns

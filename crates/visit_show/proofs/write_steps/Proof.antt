@@ -30,8 +30,8 @@ same_length c = omega arith
 returns : tie.Need-returns invariant-loop decreases-loop
 returns c = tt
 
-pub write-steps-spec : {M : Type 1} → statement M
-write-steps-spec =
+pub write_steps_spec : {M : Type 1} → statement M
+write_steps_spec =
     tie.close
     (tie.spec
     invariant-loop

@@ -18,7 +18,7 @@ returns c =
 returns-2 : tie.Need-returns-2
 returns-2 c = laid-not _ _ _ c.if1.false
 
-pub lay-spec : {M : Type 1} → statement M
-lay-spec =
+pub lay_spec : {M : Type 1} → statement M
+lay_spec =
     tie.close
     (tie.spec (λ c κs. search rules) (λ c. search rules) lay-words-requires (λ c. search rules) returns returns-2)

@@ -10,5 +10,5 @@ returns c = step-there _ _ _ c.before.if1.true c.step_from.ensures
 returns-2 : tie.Need-returns-2
 returns-2 c = step-none _ _ c.if1.false
 
-pub step-at-spec : {M : Type 1} → statement M
-step-at-spec = tie.close (tie.spec (λ c. search rules) (λ c κs. search rules) returns returns-2)
+pub step_at_spec : {M : Type 1} → statement M
+step_at_spec = tie.close (tie.spec (λ c. search rules) (λ c κs. search rules) returns returns-2)

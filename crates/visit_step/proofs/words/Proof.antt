@@ -32,8 +32,8 @@ returns-4 : tie.Need-returns-4
 unfolding words
 returns-4 c = at-step _ _ _ c.enum-told3.given.1 refl
 
-pub words-spec : {M : Type 1} → statement M
-words-spec =
+pub words_spec : {M : Type 1} → statement M
+words_spec =
     tie.close
     (tie.spec
     (λ c. search rules)

@@ -29,8 +29,8 @@ returns-5 c =
     let n = c.match.rest in
     rw (ne_eqb _ 1 n.0.0.0.1, ne_eqb _ 2 n.0.0.1, ne_eqb _ 3 n.0.1, ne_eqb _ 4 n.1)
 
-pub write-group-spec : {M : Type 1} → statement M
-write-group-spec =
+pub write_group_spec : {M : Type 1} → statement M
+write_group_spec =
     tie.close
     (tie.spec
     (λ c. search rules)

@@ -9,8 +9,8 @@ returns : tie.Need-returns
 unfolding missing
 returns c = ended _ _ c.before.before.before.before.before.before.write-missing.ensures c.before.before.write_byte.ensures
 
-pub write-missing-spec : {M : Type 1} → statement M
-write-missing-spec =
+pub write_missing_spec : {M : Type 1} → statement M
+write_missing_spec =
     tie.close
     (tie.spec
     (λ c κs. tt)

@@ -11,8 +11,8 @@ returns c =
     let s = c.before.before.before.before.before.before in
     joined _ _ _ (rw s.before.before.front.ensures at s.write-text.ensures) c.before.before.write-text2.ensures
 
-pub write-name-spec : {M : Type 1} → statement M
-write-name-spec =
+pub write_name_spec : {M : Type 1} → statement M
+write_name_spec =
     tie.close
     (tie.spec
     (λ c. search rules)

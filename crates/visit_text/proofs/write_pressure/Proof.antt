@@ -19,8 +19,8 @@ returns-2 c =
     let m = c.before.before.before.before.before in
     rw m.answer2.given.1 (joined _ _ _ m.before.before.before.before.write-name.ensures c.before.before.write-missing.ensures)
 
-pub write-pressure-spec : {M : Type 1} → statement M
-write-pressure-spec =
+pub write_pressure_spec : {M : Type 1} → statement M
+write_pressure_spec =
     tie.close
     (tie.spec
     (λ c. search rules)

@@ -28,8 +28,8 @@ returns-4 : tie.Need-returns-4
 unfolding lines written
 returns-4 c = rw c.enum-told3.given.1
 
-pub write-step-spec : {M : Type 1} → statement M
-write-step-spec =
+pub write_step_spec : {M : Type 1} → statement M
+write_step_spec =
     tie.close
     (tie.spec
     (λ c. search rules)

@@ -19,8 +19,8 @@ returns-2 c =
     let m = c.before.before.before.before.before in
     rw m.answer2.given.1 (joined _ _ _ m.before.before.before.before.write-name.ensures c.before.before.write-missing.ensures)
 
-pub write-temperature-spec : {M : Type 1} → statement M
-write-temperature-spec =
+pub write_temperature_spec : {M : Type 1} → statement M
+write_temperature_spec =
     tie.close
     (tie.spec
     (λ c. search rules)

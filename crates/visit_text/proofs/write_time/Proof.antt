@@ -11,8 +11,8 @@ returns c =
     let d = c.before.before.before.before in
     joined _ _ _ d.before.before.before.write-name.ensures (rw d.date.ensures at c.before.before.write-date.ensures)
 
-pub write-time-spec : {M : Type 1} → statement M
-write-time-spec =
+pub write_time_spec : {M : Type 1} → statement M
+write_time_spec =
     tie.close
     (tie.spec
     (λ c. search rules)

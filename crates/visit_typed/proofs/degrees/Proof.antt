@@ -23,8 +23,8 @@ returns-3 : tie.Need-returns-3
 unfolding degrees
 returns-3 c = rw (← c.before.before.before.before.before.before.read.ensures.0) (search cases)
 
-pub degrees-spec : {M : Type 1} → statement M
-degrees-spec =
+pub degrees_spec : {M : Type 1} → statement M
+degrees_spec =
     tie.close
     (tie.spec
     (λ c κs. tt)

@@ -12,8 +12,8 @@ returns-2 : tie.Need-returns-2
 unfolding has_unit
 returns-2 c = search cases
 
-pub has-unit-spec : {M : Type 1} → statement M
-has-unit-spec =
+pub has_unit_spec : {M : Type 1} → statement M
+has_unit_spec =
     tie.close
     (tie.spec
     (λ c κs. tt)

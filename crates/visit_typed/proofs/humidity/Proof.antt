@@ -20,8 +20,8 @@ returns-3 : tie.Need-returns-3
 unfolding humidity
 returns-3 c = rw (← c.before.before.before.read.ensures.0) (search cases)
 
-pub humidity-spec : {M : Type 1} → statement M
-humidity-spec =
+pub humidity_spec : {M : Type 1} → statement M
+humidity_spec =
     tie.close
     (tie.spec
     (λ c κs. tt)

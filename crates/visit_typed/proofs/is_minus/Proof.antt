@@ -8,8 +8,8 @@ returns : tie.Need-returns
 unfolding is_minus
 returns c = rw (c.same.ensures, c.before.before.front.ensures)
 
-pub is-minus-spec : {M : Type 1} → statement M
-is-minus-spec =
+pub is_minus_spec : {M : Type 1} → statement M
+is_minus_spec =
     tie.close
     (tie.spec
     (λ c κs. tt)

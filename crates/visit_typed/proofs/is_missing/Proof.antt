@@ -8,8 +8,8 @@ returns : tie.Need-returns
 unfolding is_missing
 returns c = rw (c.same.ensures, c.before.before.front.ensures)
 
-pub is-missing-spec : {M : Type 1} → statement M
-is-missing-spec =
+pub is_missing_spec : {M : Type 1} → statement M
+is_missing_spec =
     tie.close
     (tie.spec
     (λ c κs. tt)

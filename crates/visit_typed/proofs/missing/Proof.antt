@@ -25,8 +25,8 @@ returns-4 c =
     let n = c.before.before.before in
     rw (← n.before.before.before.rest.ensures, ← n.before.before.number.ensures, n.n.given.1) (search cases)
 
-pub missing-spec : {M : Type 1} → statement M
-missing-spec =
+pub missing_spec : {M : Type 1} → statement M
+missing_spec =
     tie.close
     (tie.spec
     (λ c κs. tt)

@@ -11,8 +11,8 @@ returns-2 : tie.Need-returns-2
 unfolding number
 returns-2 c = rw (← c.before.before.before.read.ensures.0, ← c.before.before.is-decimal.ensures, c.if1.false)
 
-pub number-spec : {M : Type 1} → statement M
-number-spec =
+pub number_spec : {M : Type 1} → statement M
+number_spec =
     tie.close
     (tie.spec
     (λ c κs. tt)

@@ -20,8 +20,8 @@ returns-3 : tie.Need-returns-3
 unfolding pressure
 returns-3 c = rw (← c.before.before.before.read.ensures.0) (search cases)
 
-pub pressure-spec : {M : Type 1} → statement M
-pressure-spec =
+pub pressure_spec : {M : Type 1} → statement M
+pressure_spec =
     tie.close
     (tie.spec
     (λ c κs. tt)

@@ -16,8 +16,8 @@ returns-3 : tie.Need-returns-3
 unfolding temperature
 returns-3 c = rw c.degrees2.ensures (search cases)
 
-pub temperature-spec : {M : Type 1} → statement M
-temperature-spec =
+pub temperature_spec : {M : Type 1} → statement M
+temperature_spec =
     tie.close
     (tie.spec
     (λ c κs. tt)

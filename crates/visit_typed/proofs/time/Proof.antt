@@ -17,8 +17,8 @@ returns-3 : tie.Need-returns-3
 unfolding time
 returns-3 c = rw (← c.before.before.before.before.number.ensures, c.before.before.n.given.1) (search cases)
 
-pub time-spec : {M : Type 1} → statement M
-time-spec =
+pub time_spec : {M : Type 1} → statement M
+time_spec =
     tie.close
     (tie.spec
     (λ c κs. tt)

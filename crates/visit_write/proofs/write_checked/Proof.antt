@@ -32,6 +32,6 @@ returns-3 c =
       tt,
     )
 
-pub write-checked-spec : {M : Type 1} → statement M
-write-checked-spec =
+pub write_checked_spec : {M : Type 1} → statement M
+write_checked_spec =
     tie.close (tie.spec total-requires returns returns-2 fill-requires same_length returns-3)

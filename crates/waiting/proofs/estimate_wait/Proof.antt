@@ -20,6 +20,6 @@ returns-2 : tie.Need-returns-2
 unfolding waited
 returns-2 c = rw (c.microseconds.ensures, c.before.figures-of.ensures) (search cases)
 
-pub estimate-wait-spec : {M : Type 1} → statement M
-estimate-wait-spec =
+pub estimate_wait_spec : {M : Type 1} → statement M
+estimate_wait_spec =
     tie.close (tie.spec (λ c κs. search rules) returns (λ c κs. search rules) microseconds-requires returns-2)

@@ -8,8 +8,8 @@ returns : tie.Need-returns
 unfolding answered zeros
 returns c = rw (c.before.before.answer-asked.ensures, ← c.before.before.before.before.before.before.read.ensures)
 
-pub answer-spec : {M : Type 1} → statement M
-answer-spec =
+pub answer_spec : {M : Type 1} → statement M
+answer_spec =
     tie.close
     (tie.spec
     (λ c. search rules)

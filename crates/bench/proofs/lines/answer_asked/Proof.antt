@@ -24,8 +24,8 @@ returns-6 c = rw c.before.before.before.before.before.asked5.given.1 c.before.be
 returns-7 : tie.Need-returns-7
 returns-7 c = rw (c.before.before.before.before.before.enum-told2.given.1, c.stay5.ensures.0, c.stay5.ensures.1, c.before.before.before.ledger.ensures)
 
-pub answer-asked-spec : {M : Type 1} → statement M
-answer-asked-spec =
+pub answer_asked_spec : {M : Type 1} → statement M
+answer_asked_spec =
     tie.close
     (tie.spec
     (λ c. search rules)

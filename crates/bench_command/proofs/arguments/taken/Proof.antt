@@ -9,8 +9,8 @@ returns c = rw c.before.argument.given.1
 returns-2 : tie.Need-returns-2
 returns-2 c = rw (c.before.before.before.argument2.given.1, c.next.ensures, c.before.put.ensures)
 
-pub taken-spec : {M : Type 1} → statement M
-taken-spec =
+pub taken_spec : {M : Type 1} → statement M
+taken_spec =
     tie.close
     (tie.spec
     (λ c. search rules)

@@ -42,8 +42,8 @@ loop-again c =
 returns : tie.Need-returns invariant-loop decreases-loop
 returns c = all _ _ _ _ _ c.loop-test.false c.before.loop.invariant.2
 
-pub walk-spec : {M : Type 1} → statement M
-walk-spec =
+pub walk_spec : {M : Type 1} → statement M
+walk_spec =
     tie.close
     (tie.spec
     invariant-loop

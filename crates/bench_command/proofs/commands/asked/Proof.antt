@@ -9,8 +9,8 @@ returns c = rw c.before.outcome.given.1
 returns-2 : tie.Need-returns-2
 returns-2 c = rw (c.before.enum_told.given.1, c.command.ensures)
 
-pub asked-spec : {M : Type 1} → statement M
-asked-spec =
+pub asked_spec : {M : Type 1} → statement M
+asked_spec =
     tie.close
     (tie.spec
     (λ c. search rules)

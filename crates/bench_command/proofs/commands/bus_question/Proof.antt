@@ -32,8 +32,8 @@ unfolding commands make_at
 returns-6 c = let e : ◌≡◌ {A = ℕ} c.before.before.before.before.before.before.args.row 22 = omega arith in
     rw (e, c.octet4.ensures)
 
-pub bus-question-spec : {M : Type 1} → statement M
-bus-question-spec =
+pub bus_question_spec : {M : Type 1} → statement M
+bus_question_spec =
     tie.close
     (tie.spec
     (λ c. search rules)

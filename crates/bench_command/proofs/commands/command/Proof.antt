@@ -15,8 +15,8 @@ returns-4 : tie.Need-returns-4
 unfolding commands make_at
 returns-4 c = rw c.if4.true
 
-pub command-spec : {M : Type 1} → statement M
-command-spec =
+pub command_spec : {M : Type 1} → statement M
+command_spec =
     tie.close
     (tie.spec
     (λ c κs. search rules)

@@ -20,8 +20,8 @@ returns-4 : tie.Need-returns-4
 unfolding commands make_at
 returns-4 c = rw (c.before.before.before.match.keys4, c.count3.ensures, c.before.count2.ensures, c.before.before.count.ensures)
 
-pub event-spec : {M : Type 1} → statement M
-event-spec =
+pub event_spec : {M : Type 1} → statement M
+event_spec =
     tie.close
     (tie.spec
     (λ c. search rules)

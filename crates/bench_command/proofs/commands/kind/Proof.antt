@@ -23,8 +23,8 @@ unfolding commands make_at
 returns-4 c = let e : ◌≡◌ {A = ℕ} c.before.args.row 3 = omega arith in
     rw e
 
-pub kind-spec : {M : Type 1} → statement M
-kind-spec =
+pub kind_spec : {M : Type 1} → statement M
+kind_spec =
     tie.close
     (tie.spec
     returns

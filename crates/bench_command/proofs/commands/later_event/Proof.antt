@@ -24,8 +24,8 @@ unfolding commands make_at
 returns-4 c = let e : ◌≡◌ {A = ℕ} c.before.args.row 11 = omega arith in
     rw e
 
-pub later-event-spec : {M : Type 1} → statement M
-later-event-spec =
+pub later_event_spec : {M : Type 1} → statement M
+later_event_spec =
     tie.close
     (tie.spec
     (λ c. search rules)

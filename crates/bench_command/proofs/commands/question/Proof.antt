@@ -48,8 +48,8 @@ shown-requires c κs =
 returns-9 : tie.Need-returns-9
 returns-9 c = rw (c.before.shown.ensures, c.sent2.ensures)
 
-pub question-spec : {M : Type 1} → statement M
-question-spec =
+pub question_spec : {M : Type 1} → statement M
+question_spec =
     tie.close
     (tie.spec
     (λ c. search rules)

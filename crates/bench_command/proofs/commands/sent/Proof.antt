@@ -41,8 +41,8 @@ returns c =
     same t.before.before.before.args.t1 t.before.before.octet.ensures t.before.octet2.ensures t.octet3.ensures q.before.before.octet4.ensures q.before.octet5.ensures
     q.octet6.ensures c.before.before.count.ensures c.before.count2.ensures c.count3.ensures
 
-pub sent-spec : {M : Type 1} → statement M
-sent-spec =
+pub sent_spec : {M : Type 1} → statement M
+sent_spec =
     tie.close
     (tie.spec
     (λ c. search rules)

@@ -20,8 +20,8 @@ returns-3 c = rw c.match.keys3
 returns-4 : tie.Need-returns-4
 returns-4 c = last c.before.args.row (omega arith)
 
-pub shown-spec : {M : Type 1} → statement M
-shown-spec =
+pub shown_spec : {M : Type 1} → statement M
+shown_spec =
     tie.close
     (tie.spec
     returns

@@ -83,8 +83,8 @@ returns-5 : tie.Need-returns-5 invariant-loop decreases-loop
 returns-5 c =
     row-over _ _ _ c.before.before.loop-test.false c.before.if4.false ∙ c.before.before.before.loop.invariant.1
 
-pub fits-spec : {M : Type 1} → statement M
-fits-spec =
+pub fits_spec : {M : Type 1} → statement M
+fits_spec =
     tie.close
     (tie.spec
     invariant-loop

@@ -12,5 +12,5 @@ returns-2 : tie.Need-returns-2
 unfolding is_argument
 returns-2 c = search cases
 
-pub is-argument-spec : {M : Type 1} → statement M
-is-argument-spec = tie.close (tie.spec returns returns-2)
+pub is_argument_spec : {M : Type 1} → statement M
+is_argument_spec = tie.close (tie.spec returns returns-2)

@@ -17,7 +17,7 @@ returns-3 : tie.Need-returns-3
 unfolding is_of
 returns-3 c = rw c.count2.ensures (search cases)
 
-pub is-of-spec : {M : Type 1} → statement M
-is-of-spec =
+pub is_of_spec : {M : Type 1} → statement M
+is_of_spec =
     tie.close
     (tie.spec (λ c κs. search rules) returns (λ c κs. search rules) (λ c κs. search rules) returns-2 (λ c κs. search rules) returns-3)

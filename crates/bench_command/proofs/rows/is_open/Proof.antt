@@ -13,5 +13,5 @@ returns-2 : tie.Need-returns-2
 unfolding is_open
 returns-2 c = search cases
 
-pub is-open-spec : {M : Type 1} → statement M
-is-open-spec = tie.close (tie.spec returns (λ c. search rules) (λ c. search rules) returns-2)
+pub is_open_spec : {M : Type 1} → statement M
+is_open_spec = tie.close (tie.spec returns (λ c. search rules) (λ c. search rules) returns-2)

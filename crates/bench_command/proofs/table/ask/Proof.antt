@@ -8,5 +8,5 @@ returns : tie.Need-returns
 unfolding asked_by
 returns c = rw (c.asked.ensures, ← c.before.before.before.walk.ensures)
 
-pub ask-spec : {M : Type 1} → statement M
-ask-spec = tie.close (tie.spec (λ c κs. search rules) (λ c κs. search rules) (λ c. search rules) returns)
+pub ask_spec : {M : Type 1} → statement M
+ask_spec = tie.close (tie.spec (λ c κs. search rules) (λ c κs. search rules) (λ c. search rules) returns)

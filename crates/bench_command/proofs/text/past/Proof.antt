@@ -10,5 +10,5 @@ returns c = search cases
 returns-2 : tie.Need-returns-2
 returns-2 c = search cases
 
-pub past-spec : {M : Type 1} → statement M
-past-spec = tie.close (tie.spec (λ c. search rules) returns returns-2)
+pub past_spec : {M : Type 1} → statement M
+past_spec = tie.close (tie.spec (λ c. search rules) returns returns-2)

@@ -50,8 +50,8 @@ loop-again c = omega (arith, goes_on c.before.before.before.before.args.text.now
 returns-2 : tie.Need-returns-2 invariant-loop decreases-loop
 returns-2 c = omega (arith, at-end c.before.before.args.text.now c.before.loop.i c.loop-test.false)
 
-pub row-end-spec : {M : Type 1} → statement M
-row-end-spec =
+pub row_end_spec : {M : Type 1} → statement M
+row_end_spec =
     tie.close
     (tie.spec
     invariant-loop

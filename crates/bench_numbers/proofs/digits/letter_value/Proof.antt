@@ -25,6 +25,6 @@ returns-5 : tie.Need-returns-5
 unfolding letter_value
 returns-5 c = search cases
 
-pub letter-value-spec : {M : Type 1} → statement M
-letter-value-spec =
+pub letter_value_spec : {M : Type 1} → statement M
+letter_value_spec =
     tie.close (tie.spec returns (λ c. search rules) returns-2 returns-3 (λ c. search rules) returns-4 returns-5)

@@ -19,7 +19,7 @@ returns-4 c = rw c.before.before.before.before.decimal2.given.1 (search cases)
 returns-5 : tie.Need-returns-5
 returns-5 c = rw c.before.before.before.before.decimal2.given.1 (search cases)
 
-pub limited-spec : {M : Type 1} → statement M
-limited-spec =
+pub limited_spec : {M : Type 1} → statement M
+limited_spec =
     tie.close
     (tie.spec (λ c. search rules) returns (λ c. search rules) (λ c κs. search rules) returns-2 returns-3 returns-4 returns-5)

@@ -87,8 +87,8 @@ returns-4 : tie.Need-returns-4 invariant-loop decreases-loop
 returns-4 c =
     at-end _ _ _ _ c.before.ends2.ensures (not-false _ c.if2.false) ∙ c.before.before.loop.invariant.1
 
-pub read-decimal-spec : {M : Type 1} → statement M
-read-decimal-spec =
+pub read_decimal_spec : {M : Type 1} → statement M
+read_decimal_spec =
     tie.close
     (tie.spec
     invariant-loop

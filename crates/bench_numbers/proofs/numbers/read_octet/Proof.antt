@@ -38,8 +38,8 @@ returns-3 c =
     let e = sym b.read-pair.ensures ∙ c.before.before.before.byte.given.1 in
     rw (e, (two b.before.before.args.line.now b.before.before.args.from _ e).begins) (called-no _ _ _ _ _ c.if1.false (as_none _ _ _ c.before.ends.ensures) refl)
 
-pub read-octet-spec : {M : Type 1} → statement M
-read-octet-spec =
+pub read_octet_spec : {M : Type 1} → statement M
+read_octet_spec =
     tie.close
     (tie.spec
     (λ c κs. search rules)

@@ -28,8 +28,8 @@ returns-3 c =
     let b = c.before.before.before in
     rw (b.before.ends.ensures.begins b.if1.false, eq-eqb _ _ c.before.if2.false) (as_none _ _ _ c.ends2.ensures)
 
-pub is-dash-spec : {M : Type 1} → statement M
-is-dash-spec =
+pub is_dash_spec : {M : Type 1} → statement M
+is_dash_spec =
     tie.close
     (tie.spec
     (λ c κs. search rules)

@@ -119,8 +119,8 @@ returns-3 : tie.Need-returns-3 invariant-loop decreases-loop
 returns-3 c =
     at-end _ _ _ _ c.before.ends.ensures (not-false _ c.if1.false) _ _ ∙ c.before.before.loop.invariant.2
 
-pub lay-pairs-spec : {M : Type 1} → statement M
-lay-pairs-spec =
+pub lay_pairs_spec : {M : Type 1} → statement M
+lay_pairs_spec =
     tie.close
     (tie.spec
     invariant-loop

@@ -25,8 +25,8 @@ returns-3 c =
     let b = d.before.before in
     rw c.before.before.lay-pairs.ensures (called-no _ _ _ _ _ b.if1.false (as_none _ _ _ b.before.ends.ensures) (called-no _ _ _ _ _ d.if2.false d.before.is-dash.ensures refl))
 
-pub read-bytes-spec : {M : Type 1} → statement M
-read-bytes-spec =
+pub read_bytes_spec : {M : Type 1} → statement M
+read_bytes_spec =
     tie.close
     (tie.spec
     (λ c κs. search rules)

@@ -57,8 +57,8 @@ returns-5 c =
     rw (b.before.ends.ensures.begins b.if1.false, ← d.before.value.ensures, le-ltb 15 _ d.if2.false)
     (rw (e.before.ends2.ensures.begins e.if3.false, ← c.before.value2.ensures, le-ltb 15 _ c.if4.false))
 
-pub read-pair-spec : {M : Type 1} → statement M
-read-pair-spec =
+pub read_pair_spec : {M : Type 1} → statement M
+read_pair_spec =
     tie.close
     (tie.spec
     (λ c κs. search rules)

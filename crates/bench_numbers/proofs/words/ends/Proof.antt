@@ -10,5 +10,5 @@ returns c = ended _ _ c.if1.true
 returns-2 : tie.Need-returns-2
 returns-2 c = here _ _ c.before.if1.false
 
-pub ends-spec : {M : Type 1} → statement M
-ends-spec = tie.close (tie.spec returns (λ c. search rules) returns-2)
+pub ends_spec : {M : Type 1} → statement M
+ends_spec = tie.close (tie.spec returns (λ c. search rules) returns-2)

@@ -13,5 +13,5 @@ returns-2 : tie.Need-returns-2
 unfolding hex_digit
 returns-2 c = search cases
 
-pub hex-spec : {M : Type 1} → statement M
-hex-spec = tie.close (tie.spec (λ c. search rules) (λ c. search rules) returns returns-2)
+pub hex_spec : {M : Type 1} → statement M
+hex_spec = tie.close (tie.spec (λ c. search rules) (λ c. search rules) returns returns-2)

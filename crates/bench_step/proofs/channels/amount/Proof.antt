@@ -9,8 +9,8 @@ returns c = rw (c.missing.ensures, c.before.decimal.ensures, c.before.before.res
 returns-2 : tie.Need-returns-2
 returns-2 c = rw (c.value.ensures, c.before.decimal2.ensures, ← c.before.before.before.first.ensures) (search cases)
 
-pub amount-spec : {M : Type 1} → statement M
-amount-spec =
+pub amount_spec : {M : Type 1} → statement M
+amount_spec =
     tie.close
     (tie.spec
     (λ c κs. tt)

@@ -13,8 +13,8 @@ returns-2 c = search cases
 returns-3 : tie.Need-returns-3
 returns-3 c = search cases
 
-pub missing-spec : {M : Type 1} → statement M
-missing-spec =
+pub missing_spec : {M : Type 1} → statement M
+missing_spec =
     tie.close
     (tie.spec
     returns

@@ -12,8 +12,8 @@ returns-2 c = rw (c.below.ensures, c.before.decimal2.ensures, c.before.before.re
 returns-3 : tie.Need-returns-3
 returns-3 c = rw (c.value.ensures, c.before.decimal3.ensures, ← c.before.before.before.before.first.ensures) (search cases)
 
-pub temperature-spec : {M : Type 1} → statement M
-temperature-spec =
+pub temperature_spec : {M : Type 1} → statement M
+temperature_spec =
     tie.close
     (tie.spec
     (λ c κs. tt)

@@ -11,8 +11,8 @@ returns c = c.rest.ensures ∙ after-mark _ _ _ c.before.before.find.ensures
 returns-2 : tie.Need-returns-2
 returns-2 c = c.rest2.ensures ∙ no-mark _ _ _ c.before.before.find.ensures c.before.if1.false
 
-pub after-spec : {M : Type 1} → statement M
-after-spec =
+pub after_spec : {M : Type 1} → statement M
+after_spec =
     tie.close
     (tie.spec
     (λ c κs. tt)

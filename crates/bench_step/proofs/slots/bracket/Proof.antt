@@ -12,8 +12,8 @@ returns-2 c = search cases
 returns-3 : tie.Need-returns-3
 returns-3 c = search cases
 
-pub bracket-spec : {M : Type 1} → statement M
-bracket-spec =
+pub bracket_spec : {M : Type 1} → statement M
+bracket_spec =
     tie.close
     (tie.spec
     returns

@@ -25,8 +25,8 @@ returns-5 : tie.Need-returns-5
 unfolding slot_of
 returns-5 c = search cases
 
-pub slot-spec : {M : Type 1} → statement M
-slot-spec =
+pub slot_spec : {M : Type 1} → statement M
+slot_spec =
     tie.close
     (tie.spec
     (λ c κs. tt)

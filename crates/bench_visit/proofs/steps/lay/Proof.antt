@@ -13,8 +13,8 @@ returns-2 : tie.Need-returns-2
 unfolding placed
 returns-2 c = rw c.before.before.lay.ensures (search cases)
 
-pub lay-spec : {M : Type 1} → statement M
-lay-spec =
+pub lay_spec : {M : Type 1} → statement M
+lay_spec =
     tie.close
     (tie.spec
     (λ c κs. tt)

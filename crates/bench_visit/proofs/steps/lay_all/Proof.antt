@@ -71,8 +71,8 @@ returns-2 : tie.Need-returns-2 invariant-loop decreases-loop
 returns-2 c =
     record { same = ended _ _ _ _ _ _ c.loop-test.false c.before.loop.invariant.2; within = c.before.loop.invariant.1 }
 
-pub lay-all-spec : {M : Type 1} → statement M
-lay-all-spec =
+pub lay_all_spec : {M : Type 1} → statement M
+lay_all_spec =
     tie.close
     (tie.spec
     invariant-loop

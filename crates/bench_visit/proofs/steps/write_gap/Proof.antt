@@ -12,8 +12,8 @@ returns c = rw (eq-eqb _ _ c.if1.true)
 returns-2 : tie.Need-returns-2
 returns-2 c = rw (ne_eqb _ _ c.before.before.before.before.before.if1.false, c.before.before.write-text.ensures)
 
-pub write-gap-spec : {M : Type 1} → statement M
-write-gap-spec =
+pub write_gap_spec : {M : Type 1} → statement M
+write_gap_spec =
     tie.close
     (tie.spec
     returns

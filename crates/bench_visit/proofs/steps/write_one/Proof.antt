@@ -9,8 +9,8 @@ returns c =
     let s = c.before.before.before.before in
     rw (← s.step-at.ensures) (joined _ _ _ s.before.before.before.write-gap.ensures c.before.before.write.ensures)
 
-pub write-one-spec : {M : Type 1} → statement M
-write-one-spec =
+pub write_one_spec : {M : Type 1} → statement M
+write_one_spec =
     tie.close
     (tie.spec
     (λ c κs. tt)

@@ -6,5 +6,5 @@ use Rattle.bus.proofs.addressing.addressed.Tie as tie
 returns : tie.Need-returns
 returns c = cc
 
-pub addressed-spec : {M : Type 1} → statement M
-addressed-spec = tie.close (tie.spec (λ c. search rules) (λ c. search rules) returns (λ c. search rules))
+pub addressed_spec : {M : Type 1} → statement M
+addressed_spec = tie.close (tie.spec (λ c. search rules) (λ c. search rules) returns (λ c. search rules))

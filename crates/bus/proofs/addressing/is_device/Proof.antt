@@ -6,6 +6,6 @@ use Rattle.bus.proofs.addressing.is_device.Tie as tie
 returns : tie.Need-returns
 returns c = cc
 
-pub is-device-spec : {M : Type 1} → statement M
-is-device-spec =
+pub is_device_spec : {M : Type 1} → statement M
+is_device_spec =
     tie.close (tie.spec (λ c. search rules) (λ c κs. search rules) (λ c. search rules) returns (λ c. search rules))

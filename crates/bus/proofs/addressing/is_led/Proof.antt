@@ -6,5 +6,5 @@ use Rattle.bus.proofs.addressing.is_led.Tie as tie
 returns : tie.Need-returns
 returns c = cc
 
-pub is-led-spec : {M : Type 1} → statement M
-is-led-spec = tie.close (tie.spec (λ c. search rules) (λ c κs. search rules) (λ c. search rules) returns (λ c. search rules))
+pub is_led_spec : {M : Type 1} → statement M
+is_led_spec = tie.close (tie.spec (λ c. search rules) (λ c κs. search rules) (λ c. search rules) returns (λ c. search rules))

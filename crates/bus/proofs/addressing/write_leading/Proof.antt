@@ -24,7 +24,7 @@ returns c =
     let room : 1 ≤ length entry.args.lent.now = rw c.before.device.given.1 at entry.requires.1 in
     rw c.before.device.given.1 (one-stored entry.args.lent.now _ room)
 
-pub write-leading-spec : {M : Type 1} → statement M
-write-leading-spec =
+pub write_leading_spec : {M : Type 1} → statement M
+write_leading_spec =
     tie.close
     (tie.spec (λ c. search rules) mul-lent slice-write-lent (λ c. search rules) (λ c. search rules) returns (λ c. search rules))

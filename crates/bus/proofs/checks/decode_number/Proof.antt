@@ -20,8 +20,8 @@ returns-2 c =
     decode-number _ _ _ (sym c.before.before.before.before.is-shaped.ensures ∙ not-false _ c.before.before.before.if1.false)
     c.before.before.body.ensures c.before.receiving.ensures c.pairs-number.ensures
 
-pub decode-number-spec : {M : Type 1} → statement M
-decode-number-spec =
+pub decode_number_spec : {M : Type 1} → statement M
+decode_number_spec =
     tie.close
     (tie.spec
     (λ c κs. search rules)

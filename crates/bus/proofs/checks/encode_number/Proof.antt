@@ -13,6 +13,6 @@ returns-2 : tie.Need-returns-2
 unfolding encode_number
 returns-2 c = search cases
 
-pub encode-number-spec : {M : Type 1} → statement M
-encode-number-spec =
+pub encode_number_spec : {M : Type 1} → statement M
+encode_number_spec =
     tie.close (tie.spec (λ c κs. search rules) returns (λ c κs. search rules) returns-2)

@@ -21,6 +21,6 @@ returns-4 : tie.Need-returns-4
 unfolding pairs_number
 returns-4 c = search cases
 
-pub pairs-number-spec : {M : Type 1} → statement M
-pairs-number-spec =
+pub pairs_number_spec : {M : Type 1} → statement M
+pairs_number_spec =
     tie.close (tie.spec (λ c κs. search rules) returns (λ c κs. search rules) returns-2 returns-3 returns-4)

@@ -21,5 +21,5 @@ returns-4 : tie.Need-returns-4
 unfolding read_number
 returns-4 c = search cases
 
-pub read-number-spec : {M : Type 1} → statement M
-read-number-spec = tie.close (tie.spec (λ c κs. search rules) returns (λ c κs. search rules) returns-2 returns-3 returns-4)
+pub read_number_spec : {M : Type 1} → statement M
+read_number_spec = tie.close (tie.spec (λ c κs. search rules) returns (λ c κs. search rules) returns-2 returns-3 returns-4)

@@ -8,6 +8,6 @@ use Rattle.bus.proofs.message.message_length.Tie as tie
 returns : tie.Need-returns
 returns c = rw (c.leading_length.ensures.0, c.before.bus-of.ensures) (sym (message-length c.before.before.before.args.device c.before.before.before.args.pairs.now))
 
-pub message-length-spec : {M : Type 1} → statement M
-message-length-spec =
+pub message_length_spec : {M : Type 1} → statement M
+message_length_spec =
     tie.close (tie.spec (λ c κs. search rules) (λ c κs. search rules) (λ c. search rules) returns)

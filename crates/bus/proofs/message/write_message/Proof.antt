@@ -58,8 +58,8 @@ returns c =
     head-and-tail (leading a.device) (with_registers (sending (bus_of a.device)) a.pairs.now) _ a.lent.now _ start
     led.write-leading.ensures _ (rw (sent.sending.ensures, bus) at c.before.before.write-changed.ensures)
 
-pub write-message-spec : {M : Type 1} → statement M
-write-message-spec =
+pub write_message_spec : {M : Type 1} → statement M
+write_message_spec =
     tie.close
     (tie.spec
     (λ c κs. search rules)

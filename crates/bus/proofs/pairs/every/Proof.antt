@@ -44,8 +44,8 @@ loop-again c =
 returns-2 : tie.Need-returns-2 invariant-loop decreases-loop
 returns-2 c = asking-done _ _ _ c.before.loop.invariant c.loop-test.false
 
-pub every-spec : {M : Type 1} → statement M
-every-spec =
+pub every_spec : {M : Type 1} → statement M
+every_spec =
     tie.close
     (tie.spec
     invariant-loop

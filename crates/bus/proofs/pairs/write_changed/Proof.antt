@@ -54,8 +54,8 @@ same_length c = search rules
 returns : tie.Need-returns invariant-loop decreases-loop
 returns c = changing-done _ _ _ _ _ c.before.loop.invariant c.loop-test.false
 
-pub write-changed-spec : {M : Type 1} → statement M
-write-changed-spec =
+pub write_changed_spec : {M : Type 1} → statement M
+write_changed_spec =
     tie.close
     (tie.spec
     invariant-loop

@@ -54,8 +54,8 @@ returns-2 c =
     let room : 1 ≤ length entry.args.lent.now = rw c.before.enum_told.given.1 at entry.requires.1 in
     rw (c.before.enum_told.given.1, c.changed.ensures) (one-stored entry.args.lent.now _ room)
 
-pub write-question-spec : {M : Type 1} → statement M
-write-question-spec =
+pub write_question_spec : {M : Type 1} → statement M
+write_question_spec =
     tie.close
     (tie.spec
     (λ c. search rules)

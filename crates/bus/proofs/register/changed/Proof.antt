@@ -9,6 +9,6 @@ returns-2 c = cc
 returns-3 : tie.Need-returns-3
 returns-3 c = cc
 
-pub changed-spec : {M : Type 1} → statement M
-changed-spec =
+pub changed_spec : {M : Type 1} → statement M
+changed_spec =
     tie.close (tie.spec (λ c. search rules) (λ c. search rules) (λ c. search rules) (λ c. search rules) (λ c. search rules) returns-2 returns-3)

@@ -9,8 +9,8 @@ returns c = cc
 returns-2 : tie.Need-returns-2
 returns-2 c = cc
 
-pub passes-spec : {M : Type 1} → statement M
-passes-spec =
+pub passes_spec : {M : Type 1} → statement M
+passes_spec =
     tie.close
     (tie.spec
     (λ c. search rules)

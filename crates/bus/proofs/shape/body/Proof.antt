@@ -8,7 +8,7 @@ use Rattle.bus.proofs.shape.body.Tie as tie
 returns : tie.Need-returns
 returns c = part_to_end c.before.before.before.args.bytes.now _ ∙ rw c.before.leading_length.ensures.0
 
-pub body-spec : {M : Type 1} → statement M
-body-spec =
+pub body_spec : {M : Type 1} → statement M
+body_spec =
     tie.close
     (tie.spec (λ c κs. search rules) (λ c. search rules) (λ c. search rules) (λ c. search rules) returns)

@@ -30,8 +30,8 @@ returns-4 c =
     rw (some, sym led.before.is-led.ensures ∙ not-false _ led.if2.false, ← c.before.before.body.ensures, eq-eqb _ 0 c.before.if3.false)
     c.every.ensures
 
-pub is-shaped-spec : {M : Type 1} → statement M
-is-shaped-spec =
+pub is_shaped_spec : {M : Type 1} → statement M
+is_shaped_spec =
     tie.close
     (tie.spec
     returns

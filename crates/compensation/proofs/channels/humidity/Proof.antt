@@ -7,5 +7,5 @@ use Rattle.compensation.proofs.channels.humidity.Tie as tie
 returns-2 : tie.Need-returns-2
 returns-2 c = rw c.humidity-at.ensures (search cases)
 
-pub humidity-spec : {M : Type 1} → statement M
-humidity-spec = tie.close (tie.spec (λ c κs. search rules) (λ c. search cases) returns-2)
+pub humidity_spec : {M : Type 1} → statement M
+humidity_spec = tie.close (tie.spec (λ c κs. search rules) (λ c. search cases) returns-2)

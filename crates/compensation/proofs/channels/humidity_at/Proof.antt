@@ -16,5 +16,5 @@ returns-2 c =
     let fine : SFits w32 h.0.1.0 = search rules in
     rw (one-channel _ _ c.humidity.ensures, h.1, to_z-of_z fine)
 
-pub humidity-at-spec : {M : Type 1} → statement M
-humidity-at-spec = tie.close (tie.spec (λ c. search rules) (λ c. search rules) (λ c κs. search rules) returns returns-2)
+pub humidity_at_spec : {M : Type 1} → statement M
+humidity_at_spec = tie.close (tie.spec (λ c. search rules) (λ c. search rules) (λ c κs. search rules) returns returns-2)

@@ -7,5 +7,5 @@ use Rattle.compensation.proofs.channels.pressure.Tie as tie
 returns-2 : tie.Need-returns-2
 returns-2 c = rw c.pressure-at.ensures (search cases)
 
-pub pressure-spec : {M : Type 1} → statement M
-pressure-spec = tie.close (tie.spec (λ c κs. search rules) (λ c. search cases) returns-2)
+pub pressure_spec : {M : Type 1} → statement M
+pressure_spec = tie.close (tie.spec (λ c κs. search rules) (λ c. search cases) returns-2)

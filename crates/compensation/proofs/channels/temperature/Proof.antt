@@ -8,5 +8,5 @@ use Rattle.compensation.proofs.channels.temperature.Tie as tie
 returns-2 : tie.Need-returns-2
 returns-2 c = rw (one-temperature _ _ c.temperature.ensures) (search cases)
 
-pub temperature-spec : {M : Type 1} → statement M
-temperature-spec = tie.close (tie.spec (λ c κs. search rules) (λ c. search cases) returns-2)
+pub temperature_spec : {M : Type 1} → statement M
+temperature_spec = tie.close (tie.spec (λ c κs. search rules) (λ c. search cases) returns-2)

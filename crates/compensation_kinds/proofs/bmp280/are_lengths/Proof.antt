@@ -6,5 +6,5 @@ use Rattle.compensation_kinds.proofs.bmp280.are_lengths.Tie as tie
 returns : tie.Need-returns
 returns c = rw c.before.before.before.facts.ensures
 
-pub are-lengths-spec : {M : Type 1} → statement M
-are-lengths-spec = tie.close (tie.spec (λ c κs. search rules) returns)
+pub are_lengths_spec : {M : Type 1} → statement M
+are_lengths_spec = tie.close (tie.spec (λ c κs. search rules) returns)

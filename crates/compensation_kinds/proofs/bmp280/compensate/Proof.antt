@@ -32,6 +32,6 @@ returns-3 : tie.Need-returns-3
 unfolding compensated_by
 returns-3 c = ap reading_answer (rw (one-reading _ _ c.read.ensures) (search cases))
 
-pub compensate-spec : {M : Type 1} → statement M
-compensate-spec =
+pub compensate_spec : {M : Type 1} → statement M
+compensate_spec =
     tie.close (tie.spec (λ c κs. search rules) returns (λ c κs. search rules) returns-2 read-requires returns-3)

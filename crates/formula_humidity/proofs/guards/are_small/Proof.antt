@@ -24,5 +24,5 @@ returns c =
     let s = half.before.before.before.before.before.before.before.before in
     rw (to_z-of_z (h2-fits s), to_z-of_z (h4-fits s), to_z-of_z (h5-fits s), to_z-of_z (h6-fits s))
 
-pub are-small-spec : {M : Type 1} → statement M
-are-small-spec = tie.close (tie.spec returns)
+pub are_small_spec : {M : Type 1} → statement M
+are_small_spec = tie.close (tie.spec returns)

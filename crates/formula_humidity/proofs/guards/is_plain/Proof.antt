@@ -9,5 +9,5 @@ returns c =
     let u = c.before in
     rw (u.is-usual.ensures, c.are-small.ensures, to_z-of_z u.before.ranges.fine)
 
-pub is-plain-spec : {M : Type 1} → statement M
-is-plain-spec = tie.close (tie.spec (λ c κs. search rules) (λ c κs. search rules) returns)
+pub is_plain_spec : {M : Type 1} → statement M
+is_plain_spec = tie.close (tie.spec (λ c κs. search rules) (λ c κs. search rules) returns)

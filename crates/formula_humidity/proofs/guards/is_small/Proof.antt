@@ -6,5 +6,5 @@ use Rattle.formula_humidity.proofs.guards.is_small.Tie as tie
 returns : tie.Need-returns
 returns c = rw (to_z-of_z c.ranges.product)
 
-pub is-small-spec : {M : Type 1} → statement M
-is-small-spec = tie.close (tie.spec returns)
+pub is_small_spec : {M : Type 1} → statement M
+is_small_spec = tie.close (tie.spec returns)

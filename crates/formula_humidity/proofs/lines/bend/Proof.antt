@@ -31,8 +31,8 @@ returns c =
       to_z-of_z s.ranges.v,
     )
 
-pub bend-spec : {M : Type 1} → statement M
-bend-spec =
+pub bend_spec : {M : Type 1} → statement M
+bend_spec =
     tie.close
     (tie.spec
     (λ c. search rules)

@@ -22,8 +22,8 @@ returns c =
       to_z-of_z s.ranges.v,
     )
 
-pub correction-spec : {M : Type 1} → statement M
-correction-spec =
+pub correction_spec : {M : Type 1} → statement M
+correction_spec =
     tie.close
     (tie.spec
     (λ c. search rules)

@@ -27,8 +27,8 @@ returns c =
       to_z-of_z s.ranges.v,
     )
 
-pub gain-spec : {M : Type 1} → statement M
-gain-spec =
+pub gain_spec : {M : Type 1} → statement M
+gain_spec =
     tie.close
     (tie.spec
     (λ c κs. tt)

@@ -46,8 +46,8 @@ returns-3 c =
     (goes _ (product_is k) y.b.given.1
     (rw (to_z-of_z h) at c.correction.ensures))
 
-pub humidity-spec : {M : Type 1} → statement M
-humidity-spec =
+pub humidity_spec : {M : Type 1} → statement M
+humidity_spec =
     tie.close
     (tie.spec
     (λ c κs. tt)

@@ -26,5 +26,5 @@ shifted (negsuc m) n e =
 returns : tie.Need-returns
 returns c = shifted c.before.args.v c.clamp.result (rw (to_z-of_z c.before.ranges.v) at c.clamp.ensures)
 
-pub last-spec : {M : Type 1} → statement M
-last-spec = tie.close (tie.spec (λ c κs. tt) returns)
+pub last_spec : {M : Type 1} → statement M
+last_spec = tie.close (tie.spec (λ c κs. tt) returns)

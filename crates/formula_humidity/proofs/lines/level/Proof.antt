@@ -36,8 +36,8 @@ returns c =
       to_z-of_z s.ranges.v,
     )
 
-pub level-spec : {M : Type 1} → statement M
-level-spec =
+pub level_spec : {M : Type 1} → statement M
+level_spec =
     tie.close
     (tie.spec
     (λ c κs. tt)

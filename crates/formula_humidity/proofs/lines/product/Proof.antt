@@ -10,5 +10,5 @@ returns : tie.Need-returns
 unfolding run product_line multiplied
 returns c = cc (to_z-of_z c.before.before.before.ranges.v)
 
-pub product-spec : {M : Type 1} → statement M
-product-spec = tie.close (tie.spec (λ c κs. tt) (λ c κs. tt) (λ c κs. tt) returns)
+pub product_spec : {M : Type 1} → statement M
+product_spec = tie.close (tie.spec (λ c κs. tt) (λ c κs. tt) (λ c κs. tt) returns)

@@ -53,5 +53,5 @@ returns c =
     let right = plus (down (times (v s) (h3 s) refl) 11 refl) (literal 32768 refl) refl in
     within (down (times (down (times (v s) (h6 s) refl) 10 refl) right refl) 10 refl) 2025745 refl refl
 
-pub bend-spec : {M : Type 1} → statement M
-bend-spec = tie.close (tie.spec (λ c. search rules) cast-h6 mul-result mul-result-2 add-result mul-result-3 returns)
+pub bend_spec : {M : Type 1} → statement M
+bend_spec = tie.close (tie.spec (λ c. search rules) cast-h6 mul-result mul-result-2 add-result mul-result-3 returns)

@@ -34,5 +34,5 @@ returns c =
     let square = down (times (down (v c.before) 15 refl) (down (v c.before) 15 refl) refl) 7 refl in
     within (minus (v c.before) (down (times square (h1 c.before) refl) 4 refl) refl) 2147483647 refl refl
 
-pub correct-spec : {M : Type 1} → statement M
-correct-spec = tie.close (tie.spec (λ c. search rules) mul-result mul-result-2 sub-result returns)
+pub correct_spec : {M : Type 1} → statement M
+correct_spec = tie.close (tie.spec (λ c. search rules) mul-result mul-result-2 sub-result returns)

@@ -41,5 +41,5 @@ returns c =
     let sum = plus (times (plus (bent c) (literal 2097152 refl) refl) (h2 (entry c)) refl) (literal 8192 refl) refl in
     within (down sum 14 refl) 128842 refl refl
 
-pub gain-spec : {M : Type 1} → statement M
-gain-spec = tie.close (tie.spec cast-h2 (λ c κs. search rules) add-result mul-result add-result-2 returns)
+pub gain_spec : {M : Type 1} → statement M
+gain_spec = tie.close (tie.spec cast-h2 (λ c κs. search rules) add-result mul-result add-result-2 returns)

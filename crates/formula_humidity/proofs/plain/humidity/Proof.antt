@@ -121,8 +121,8 @@ returns-2 : tie.Need-returns-2
 unfolding channel_plainly
 returns-2 c = rw (multiplies-is c.before, c.if1.false)
 
-pub humidity-spec : {M : Type 1} → statement M
-humidity-spec =
+pub humidity_spec : {M : Type 1} → statement M
+humidity_spec =
     tie.close
     (tie.spec cast-difference sub-difference level-requires gain-requires mul-product (λ c κs. search rules) correct-requires
     (λ c κs. search rules) (λ c κs. search rules) returns returns-2)

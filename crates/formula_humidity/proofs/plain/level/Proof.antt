@@ -67,5 +67,5 @@ returns c =
     let warm = minus (minus (up (adc s) 14 refl) (up (h4 s) 20 refl) refl) (times (h5 s) (v s) refl) refl in
     within (down (plus warm (literal 16384 refl) refl) 15 refl) 55421 refl refl
 
-pub level-spec : {M : Type 1} → statement M
-level-spec = tie.close (tie.spec (λ c. search rules) cast-h4 cast-h5 mul-result mul-result-2 sub-result mul-result-3 sub-result-2 add-result returns)
+pub level_spec : {M : Type 1} → statement M
+level_spec = tie.close (tie.spec (λ c. search rules) cast-h4 cast-h5 mul-result mul-result-2 sub-result mul-result-3 sub-result-2 add-result returns)

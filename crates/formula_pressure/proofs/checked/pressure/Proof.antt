@@ -25,5 +25,5 @@ returns-2 c =
     let h : SFits w64 x.p.given.0.0 = search rules in
     rw (sym (lines_are x.before.before) ∙ x.p.given.1) (rw (to_z-of_z h) at c.in-range.ensures)
 
-pub pressure-spec : {M : Type 1} → statement M
-pressure-spec = tie.close (tie.spec (λ c κs. tt) (λ c. search rules) (λ c. search rules) (λ c κs. tt) returns returns-2)
+pub pressure_spec : {M : Type 1} → statement M
+pressure_spec = tie.close (tie.spec (λ c κs. tt) (λ c. search rules) (λ c. search rules) (λ c κs. tt) returns returns-2)

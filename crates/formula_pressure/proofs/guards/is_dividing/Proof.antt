@@ -6,5 +6,5 @@ use Rattle.formula_pressure.proofs.guards.is_dividing.Tie as tie
 returns : tie.Need-returns
 returns c = rw (to_z-of_z c.ranges.dividend, to_z-of_z c.ranges.divisor)
 
-pub is-dividing-spec : {M : Type 1} → statement M
-is-dividing-spec = tie.close (tie.spec returns)
+pub is_dividing_spec : {M : Type 1} → statement M
+is_dividing_spec = tie.close (tie.spec returns)

@@ -7,5 +7,5 @@ use Rattle.formula_pressure.proofs.guards.is_plain.Tie as tie
 returns : tie.Need-returns
 returns c = rw (c.is-usual.ensures, to_z-of_z c.before.ranges.fine)
 
-pub is-plain-spec : {M : Type 1} → statement M
-is-plain-spec = tie.close (tie.spec (λ c κs. search rules) returns)
+pub is_plain_spec : {M : Type 1} → statement M
+is_plain_spec = tie.close (tie.spec (λ c κs. search rules) returns)

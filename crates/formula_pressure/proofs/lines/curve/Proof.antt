@@ -26,8 +26,8 @@ returns c =
       to_z-of_z s.ranges.p,
     )
 
-pub curve-spec : {M : Type 1} → statement M
-curve-spec =
+pub curve_spec : {M : Type 1} → statement M
+curve_spec =
     tie.close
     (tie.spec
     (λ c κs. tt)

@@ -52,8 +52,8 @@ returns c =
       to_z-of_z (p3-fits s),
     ))
 
-pub divisor-spec : {M : Type 1} → statement M
-divisor-spec =
+pub divisor_spec : {M : Type 1} → statement M
+divisor_spec =
     tie.close
     (tie.spec
     (λ c. search rules)

@@ -37,5 +37,5 @@ returns-3 c =
     let h = ranged c in
     rw (to_z-of_z s.ranges.p, h.0, le-leb (nat_abs s.args.p) 4294967295 h.1)
 
-pub in-range-spec : {M : Type 1} → statement M
-in-range-spec = tie.close (tie.spec returns returns-2 cast-t5 returns-3)
+pub in_range_spec : {M : Type 1} → statement M
+in_range_spec = tie.close (tie.spec returns returns-2 cast-t5 returns-3)

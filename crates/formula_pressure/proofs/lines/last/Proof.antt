@@ -29,8 +29,8 @@ returns c =
       to_z-of_z s.ranges.var2,
     )
 
-pub last-spec : {M : Type 1} → statement M
-last-spec =
+pub last_spec : {M : Type 1} → statement M
+last_spec =
     tie.close
     (tie.spec
     (λ c κs. tt)

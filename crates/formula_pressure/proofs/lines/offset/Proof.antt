@@ -46,8 +46,8 @@ returns c =
       to_z-of_z (p6-fits s),
     ))
 
-pub offset-spec : {M : Type 1} → statement M
-offset-spec =
+pub offset_spec : {M : Type 1} → statement M
+offset_spec =
     tie.close
     (tie.spec
     (λ c κs. tt)

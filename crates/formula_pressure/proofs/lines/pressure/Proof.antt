@@ -92,8 +92,8 @@ returns-5 c =
     (goes _ (quotient_is p.before.before) p.e.given.1
     (rw (to_z-of_z h) at c.refine.ensures))))
 
-pub pressure-spec : {M : Type 1} → statement M
-pressure-spec =
+pub pressure_spec : {M : Type 1} → statement M
+pressure_spec =
     tie.close
     (tie.spec
     (λ c κs. tt)

@@ -29,5 +29,5 @@ returns c =
     c.before.before.before.before.subtract.result
     ∙ rw (c.before.before.before.before.subtract.ensures, c.before.before.before.before.before.unsigned.ensures))
 
-pub quotient-spec : {M : Type 1} → statement M
-quotient-spec = tie.close (tie.spec (λ c κs. tt) (λ c κs. tt) (λ c κs. tt) (λ c κs. tt) (λ c κs. tt) (λ c κs. tt) returns)
+pub quotient_spec : {M : Type 1} → statement M
+quotient_spec = tie.close (tie.spec (λ c κs. tt) (λ c κs. tt) (λ c κs. tt) (λ c κs. tt) (λ c κs. tt) (λ c κs. tt) returns)

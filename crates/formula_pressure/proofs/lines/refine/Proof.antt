@@ -42,8 +42,8 @@ returns-3 c =
     (goes _ (slope-is k) y.b.given.1
     (rw (to_z-of_z s.ranges.p, to_z-of_z h1, to_z-of_z h2) at c.last.ensures))
 
-pub refine-spec : {M : Type 1} → statement M
-refine-spec =
+pub refine_spec : {M : Type 1} → statement M
+refine_spec =
     tie.close
     (tie.spec
     (λ c κs. tt)

@@ -31,5 +31,5 @@ returns c =
     let p = minus (literal 1048576 refl) (adc c) refl in
     within {e = dividend_line c.args.count c.args.var2} (onto p (minus (up (value p) 31 refl) (var2 c) refl)) 11300000000000000 refl refl
 
-pub dividend-spec : {M : Type 1} → statement M
-dividend-spec = tie.close (tie.spec (λ c. search rules) sub-result mul-result sub-result-2 returns)
+pub dividend_spec : {M : Type 1} → statement M
+dividend_spec = tie.close (tie.spec (λ c. search rules) sub-result mul-result sub-result-2 returns)

@@ -74,5 +74,5 @@ returns c =
     let whole = down (times (plus (up (literal 1 refl) 47 refl) (value var1) refl) (p1 s) refl) 33 refl in
     within {e = scale_lines s.args.words s.args.difference} (onto var1 whole) 1073741824 refl refl
 
-pub divisor-spec : {M : Type 1} → statement M
-divisor-spec = tie.close (tie.spec (λ c. search rules) cast-p2 cast-p3 mul-var1 mul-var1-2 mul-var1-3 mul-var1-4 add-var1 add-result mul-result returns)
+pub divisor_spec : {M : Type 1} → statement M
+divisor_spec = tie.close (tie.spec (λ c. search rules) cast-p2 cast-p3 mul-var1 mul-var1-2 mul-var1-3 mul-var1-4 add-var1 add-result mul-result returns)

@@ -57,8 +57,8 @@ returns c =
     let b = plus (value a) (up (times (var1 s) (p5 s) refl) 17 refl) refl in
     within {e = offset_lines s.args.words s.args.difference} (onto a (onto b (plus (value b) (up (p4 s) 35 refl) refl))) 6700000000000000 refl refl
 
-pub offset-spec : {M : Type 1} → statement M
-offset-spec =
+pub offset_spec : {M : Type 1} → statement M
+offset_spec =
     tie.close
     (tie.spec
     (λ c. widened {v = w16} {z = c.before.before.args.words.p4} tt (search rules))

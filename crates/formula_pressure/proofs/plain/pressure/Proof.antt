@@ -160,8 +160,8 @@ returns-2 : tie.Need-returns-2
 unfolding channel_plainly
 returns-2 c = rw (divides-is c.before, c.if1.false)
 
-pub pressure-spec : {M : Type 1} → statement M
-pressure-spec =
+pub pressure_spec : {M : Type 1} → statement M
+pressure_spec =
     tie.close
     (tie.spec cast-difference sub-difference offset-requires divisor-requires (λ c κs. search rules) (λ c κs. search rules) quotient-requires
     (λ c κs. search rules) (λ c κs. search rules) (λ c κs. search rules) returns returns-2)

@@ -29,5 +29,5 @@ returns : tie.Need-returns
 unfolding division_line
 returns c = within (over (times (above c) (literal 3125 refl) refl) (below c) 134217728 (omega arith) c.requires.divisor refl) 68719476736 refl refl
 
-pub quotient-spec : {M : Type 1} → statement M
-quotient-spec = tie.close (tie.spec mul-result div-result returns)
+pub quotient_spec : {M : Type 1} → statement M
+quotient_spec = tie.close (tie.spec mul-result div-result returns)

@@ -66,8 +66,8 @@ returns c =
     let last = plus (down (plus (plus (p s) (value var1) refl) (value var2) refl) 8 refl) (up (p7 s) 4 refl) refl in
     within {e = refined_lines s.args.words s.args.p} (onto var1 (onto var2 last)) 4294967296 refl refl
 
-pub refine-spec : {M : Type 1} → statement M
-refine-spec =
+pub refine_spec : {M : Type 1} → statement M
+refine_spec =
     tie.close
     (tie.spec
     (λ c. widened {v = w16} {z = c.before.before.args.words.p7} tt (search rules))

@@ -66,5 +66,5 @@ returns-3 c =
     let hx : SFits w64 x.fine2.given.0.0 = search rules in
     rw (to_z-of_z hv, to_z-of_z hx, to_z-of_z (value-fits v), to_z-of_z (fine-fits x), fine-is x, value-is v)
 
-pub temperature-spec : {M : Type 1} → statement M
-temperature-spec = tie.close (tie.spec (λ c κs. tt) (λ c. search rules) (λ c. search rules) (λ c κs. tt) (λ c. search rules) (λ c. search rules) cast-t13 cast-t14 returns returns-2 returns-3)
+pub temperature_spec : {M : Type 1} → statement M
+temperature_spec = tie.close (tie.spec (λ c κs. tt) (λ c. search rules) (λ c. search rules) (λ c κs. tt) (λ c. search rules) (λ c. search rules) cast-t13 cast-t14 returns returns-2 returns-3)

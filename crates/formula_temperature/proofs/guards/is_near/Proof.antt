@@ -38,5 +38,5 @@ returns c =
     let s = back (times (distance c) (distance c) refl) in
     rw (s, d, n, t)
 
-pub is-near-spec : {M : Type 1} → statement M
-is-near-spec = tie.close (tie.spec (λ c. search rules) (λ c. search rules) sub-distance mul-result returns)
+pub is_near_spec : {M : Type 1} → statement M
+is_near_spec = tie.close (tie.spec (λ c. search rules) (λ c. search rules) sub-distance mul-result returns)

@@ -17,8 +17,8 @@ returns c =
       to_z-of_z s.ranges.fine,
     )
 
-pub degrees-spec : {M : Type 1} → statement M
-degrees-spec =
+pub degrees_spec : {M : Type 1} → statement M
+degrees_spec =
     tie.close
     (tie.spec
     (λ c κs. tt)

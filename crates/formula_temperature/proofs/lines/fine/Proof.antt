@@ -9,5 +9,5 @@ returns : tie.Need-returns
 unfolding run fine_lines on_value on_values added
 returns c = rw (c.add.ensures, c.before.curve.ensures, c.before.before.slope.ensures)
 
-pub fine-spec : {M : Type 1} → statement M
-fine-spec = tie.close (tie.spec (λ c κs. tt) (λ c κs. tt) (λ c κs. tt) returns)
+pub fine_spec : {M : Type 1} → statement M
+fine_spec = tie.close (tie.spec (λ c κs. tt) (λ c κs. tt) (λ c κs. tt) returns)

@@ -28,8 +28,8 @@ returns c =
       to_z-of_z (t2-fits s),
     )
 
-pub slope-spec : {M : Type 1} → statement M
-slope-spec =
+pub slope_spec : {M : Type 1} → statement M
+slope_spec =
     tie.close
     (tie.spec
     (λ c κs. tt)

@@ -21,5 +21,5 @@ returns : tie.Need-returns
 unfolding degrees_line
 returns c = within (down (plus (times (fine c) (literal 5 refl) refl) (literal 128 refl) refl) 8 refl) 23041 refl refl
 
-pub degrees-spec : {M : Type 1} → statement M
-degrees-spec = tie.close (tie.spec mul-result add-result returns)
+pub degrees_spec : {M : Type 1} → statement M
+degrees_spec = tie.close (tie.spec mul-result add-result returns)

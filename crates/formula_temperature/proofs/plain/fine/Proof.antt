@@ -87,5 +87,5 @@ returns c =
     let var2 = down (times (down (times (difference s) (difference s) refl) 12 refl) (t3 s) refl) 14 refl in
     within {e = fine_lines s.args.words s.args.count} (onto var1 (onto var2 (plus (value var1) (value var2) refl))) 1179648 refl refl
 
-pub fine-spec : {M : Type 1} → statement M
-fine-spec = tie.close (tie.spec (λ c. search rules) cast-t2 cast-t3 (λ c. search rules) sub-difference (λ c. search rules) mul-var1 sub-var1 mul-var1-2 mul-var2 mul-var2-2 add-result returns)
+pub fine_spec : {M : Type 1} → statement M
+fine_spec = tie.close (tie.spec (λ c. search rules) cast-t2 cast-t3 (λ c. search rules) sub-difference (λ c. search rules) mul-var1 sub-var1 mul-var1-2 mul-var2 mul-var2-2 add-result returns)

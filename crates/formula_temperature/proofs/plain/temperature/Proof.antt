@@ -27,5 +27,5 @@ returns c =
     let v = degrees-is c in
     rw (back v, back f, to_z-of_z (fit32 v), to_z-of_z (fit32 f), f.is, v.is)
 
-pub temperature-spec : {M : Type 1} → statement M
-temperature-spec = tie.close (tie.spec (λ c κs. search rules) (λ c κs. search rules) cast-t5 cast-t6 returns)
+pub temperature_spec : {M : Type 1} → statement M
+temperature_spec = tie.close (tie.spec (λ c κs. search rules) (λ c κs. search rules) cast-t5 cast-t6 returns)

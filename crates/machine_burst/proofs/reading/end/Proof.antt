@@ -2,8 +2,8 @@
 use Rattle.machine_burst.proofs.reading.end.Statement.{statement}
 use Rattle.machine_burst.proofs.reading.end.Tie as tie
 
-pub end-spec : {M : Type 1} → statement M
-end-spec =
+pub end_spec : {M : Type 1} → statement M
+end_spec =
     tie.close
     (tie.spec
     (λ c κs. tt)

@@ -4,8 +4,8 @@ use Rattle.laws.specs.Cases.{cases}
 use Rattle.machine_burst.proofs.reading.give_at.Statement.{statement}
 use Rattle.machine_burst.proofs.reading.give_at.Tie as tie
 
-pub give-at-spec : {M : Type 1} → statement M
-give-at-spec =
+pub give_at_spec : {M : Type 1} → statement M
+give_at_spec =
     tie.close
     (tie.spec
     (λ c. search rules)

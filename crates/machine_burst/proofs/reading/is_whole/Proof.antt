@@ -3,8 +3,8 @@ use borrow.Author.Rules.{rules}
 use Rattle.machine_burst.proofs.reading.is_whole.Statement.{statement}
 use Rattle.machine_burst.proofs.reading.is_whole.Tie as tie
 
-pub is-whole-spec : {M : Type 1} → statement M
-is-whole-spec =
+pub is_whole_spec : {M : Type 1} → statement M
+is_whole_spec =
     tie.close
     (tie.spec
     (λ c κs. tt)

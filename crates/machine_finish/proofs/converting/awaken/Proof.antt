@@ -2,8 +2,8 @@
 use Rattle.machine_finish.proofs.converting.awaken.Statement.{statement}
 use Rattle.machine_finish.proofs.converting.awaken.Tie as tie
 
-pub awaken-spec : {M : Type 1} → statement M
-awaken-spec =
+pub awaken_spec : {M : Type 1} → statement M
+awaken_spec =
     tie.close
     (tie.spec
     (λ c κs. tt)

@@ -2,8 +2,8 @@
 use Rattle.machine_finish.proofs.converting.convert.Statement.{statement}
 use Rattle.machine_finish.proofs.converting.convert.Tie as tie
 
-pub convert-spec : {M : Type 1} → statement M
-convert-spec =
+pub convert_spec : {M : Type 1} → statement M
+convert_spec =
     tie.close
     (tie.spec
     (λ c κs. tt)

@@ -2,5 +2,5 @@
 use Rattle.machine_finish.proofs.converting.may_finish.Statement.{statement}
 use Rattle.machine_finish.proofs.converting.may_finish.Tie as tie
 
-pub may-finish-spec : {M : Type 1} → statement M
-may-finish-spec = tie.close (tie.spec (λ c κs. tt) (λ c. rw c.is-running.ensures))
+pub may_finish_spec : {M : Type 1} → statement M
+may_finish_spec = tie.close (tie.spec (λ c κs. tt) (λ c. rw c.is-running.ensures))

@@ -4,5 +4,5 @@ use Rattle.laws.specs.Cases.{cases}
 use Rattle.machine_finish.proofs.converting.rest.Statement.{statement}
 use Rattle.machine_finish.proofs.converting.rest.Tie as tie
 
-pub rest-spec : {M : Type 1} → statement M
-rest-spec = tie.close (tie.spec (λ c κs. tt) (λ c. search rules) (λ c κs. tt) (λ c κs. tt) (λ c. search cases) (λ c. search cases))
+pub rest_spec : {M : Type 1} → statement M
+rest_spec = tie.close (tie.spec (λ c κs. tt) (λ c. search rules) (λ c κs. tt) (λ c κs. tt) (λ c. search cases) (λ c. search cases))

@@ -3,8 +3,8 @@ use Rattle.laws.specs.Cases.{cases}
 use Rattle.machine_write.proofs.by_register.take_f4.Statement.{statement}
 use Rattle.machine_write.proofs.by_register.take_f4.Tie as tie
 
-pub take-f4-spec : {M : Type 1} → statement M
-take-f4-spec =
+pub take_f4_spec : {M : Type 1} → statement M
+take_f4_spec =
     tie.close
     (tie.spec
     (λ c κs. tt)

@@ -3,8 +3,8 @@ use Rattle.laws.specs.Cases.{cases}
 use Rattle.machine_write.proofs.by_register.write_control.Statement.{statement}
 use Rattle.machine_write.proofs.by_register.write_control.Tie as tie
 
-pub write-control-spec : {M : Type 1} → statement M
-write-control-spec =
+pub write_control_spec : {M : Type 1} → statement M
+write_control_spec =
     tie.close
     (tie.spec
     (λ c κs. tt)

@@ -4,8 +4,8 @@ use Rattle.laws.specs.Cases.{cases}
 use Rattle.machine_write.proofs.by_register.write_f5.Statement.{statement}
 use Rattle.machine_write.proofs.by_register.write_f5.Tie as tie
 
-pub write-f5-spec : {M : Type 1} → statement M
-write-f5-spec =
+pub write_f5_spec : {M : Type 1} → statement M
+write_f5_spec =
     tie.close
     (tie.spec
     (λ c κs. tt)

@@ -3,8 +3,8 @@ use Rattle.laws.specs.Cases.{cases}
 use Rattle.machine_write.proofs.by_register.write_reset.Statement.{statement}
 use Rattle.machine_write.proofs.by_register.write_reset.Tie as tie
 
-pub write-reset-spec : {M : Type 1} → statement M
-write-reset-spec =
+pub write_reset_spec : {M : Type 1} → statement M
+write_reset_spec =
     tie.close
     (tie.spec
     (λ c κs. tt)

@@ -23,5 +23,5 @@ returns-2 c =
     eq_yes _ _ _ _ _ o.before.if1.false
     (b.finish-copied.ensures ∙ ap (λ (q : Outcome). after_copied q s.args.seen s.args.t s.args.p s.args.h s.args.lent.now) o.copied.ensures)
 
-pub copy-written-spec : {M : Type 1} → statement M
-copy-written-spec = tie.close (tie.spec (λ c κs. search rules) returns (λ c κs. search rules) (λ c κs. search rules) (λ c. search rules) returns-2)
+pub copy_written_spec : {M : Type 1} → statement M
+copy_written_spec = tie.close (tie.spec (λ c κs. search rules) returns (λ c κs. search rules) (λ c κs. search rules) (λ c. search rules) returns-2)

@@ -23,5 +23,5 @@ returns-2 c =
     eq_yes _ _ _ _ _ o.before.if1.false
     (b.read-finished.ensures ∙ ap (λ (q : Outcome). after_finish q s.args.seen s.args.lent.now) o.finish.ensures)
 
-pub finish-copied-spec : {M : Type 1} → statement M
-finish-copied-spec = tie.close (tie.spec (λ c κs. search rules) returns (λ c κs. search rules) (λ c κs. search rules) (λ c. search rules) returns-2)
+pub finish_copied_spec : {M : Type 1} → statement M
+finish_copied_spec = tie.close (tie.spec (λ c κs. search rules) returns (λ c κs. search rules) (λ c κs. search rules) (λ c. search rules) returns-2)

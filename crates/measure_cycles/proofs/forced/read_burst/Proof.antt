@@ -26,5 +26,5 @@ returns-2 c =
     (ap (λ (q : Outcome × List ℕ). (record { machine = q.0.machine; seen = e.take-eight.result.seen }, q.1)) k.close.ensures
     ∙ ap (λ (r : Ridden). closed_after r s.args.lent.now) e.take-eight.ensures)
 
-pub read-burst-spec : {M : Type 1} → statement M
-read-burst-spec = tie.close (tie.spec (λ c κs. search rules) returns (λ c κs. search rules) (λ c κs. search rules) (λ c. search rules) returns-2)
+pub read_burst_spec : {M : Type 1} → statement M
+read_burst_spec = tie.close (tie.spec (λ c κs. search rules) returns (λ c κs. search rules) (λ c κs. search rules) (λ c. search rules) returns-2)

@@ -23,5 +23,5 @@ returns-2 c =
     eq_yes _ _ _ _ _ o.before.if1.false
     (b.read-burst.ensures ∙ ap (λ (q : Outcome). after_open q s.args.seen s.args.lent.now) o.open.ensures)
 
-pub read-finished-spec : {M : Type 1} → statement M
-read-finished-spec = tie.close (tie.spec (λ c κs. search rules) returns (λ c κs. search rules) (λ c κs. search rules) (λ c. search rules) returns-2)
+pub read_finished_spec : {M : Type 1} → statement M
+read_finished_spec = tie.close (tie.spec (λ c κs. search rules) returns (λ c κs. search rules) (λ c κs. search rules) (λ c. search rules) returns-2)

@@ -14,5 +14,5 @@ returns c =
     let a = o.before.before.args in
     f.copy_Written.ensures ∙ ap (λ (q : Outcome). after_write q a.seen a.t a.p a.h a.lent.now) o.write.ensures
 
-pub ride-spec : {M : Type 1} → statement M
-ride-spec = tie.close (tie.spec (λ c κs. search rules) (λ c κs. search rules) (λ c. search rules) returns)
+pub ride_spec : {M : Type 1} → statement M
+ride_spec = tie.close (tie.spec (λ c κs. search rules) (λ c κs. search rules) (λ c. search rules) returns)

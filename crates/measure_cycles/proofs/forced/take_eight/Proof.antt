@@ -36,5 +36,5 @@ returns c =
     let l = c.before.loop in
     none_left l.now l.all l.i (search rules) ∙ l.invariant.1
 
-pub take-eight-spec : {M : Type 1} → statement M
-take-eight-spec = tie.close (tie.spec invariant-loop decreases-loop (λ c. (search rules, refl)) (λ c κs. search rules) (λ c. search rules) (λ c. search rules) loop-again returns)
+pub take_eight_spec : {M : Type 1} → statement M
+take_eight_spec = tie.close (tie.spec invariant-loop decreases-loop (λ c. (search rules, refl)) (λ c κs. search rules) (λ c. search rules) (λ c. search rules) loop-again returns)

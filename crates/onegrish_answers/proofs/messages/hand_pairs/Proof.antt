@@ -10,7 +10,7 @@ returns c = rw (c.before.before.before.decoded.given.1, c.hand-address.ensures) 
 returns-2 : tie.Need-returns-2
 returns-2 c = rw c.before.decoded2.given.1
 
-pub hand-pairs-spec : {M : Type 1} → statement M
-hand-pairs-spec =
+pub hand_pairs_spec : {M : Type 1} → statement M
+hand_pairs_spec =
     tie.close
     (tie.spec (λ c. search rules) (λ c κs. search rules) (λ c. search rules) returns returns-2)

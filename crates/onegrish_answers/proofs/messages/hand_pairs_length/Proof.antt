@@ -10,6 +10,6 @@ returns c = rw c.before.decoded.given.1 (pairs-length c.before.decoded.given.0.0
 returns-2 : tie.Need-returns-2
 returns-2 c = rw c.before.decoded2.given.1
 
-pub hand-pairs-length-spec : {M : Type 1} → statement M
-hand-pairs-length-spec =
+pub hand_pairs_length_spec : {M : Type 1} → statement M
+hand_pairs_length_spec =
     tie.close (tie.spec (λ c. search rules) (λ c. search rules) returns returns-2)

@@ -9,5 +9,5 @@ returns c = rw c.before.polled.given.1
 returns-2 : tie.Need-returns-2
 returns-2 c = rw c.enum_told.given.1
 
-pub hand-place-spec : {M : Type 1} → statement M
-hand-place-spec = tie.close (tie.spec (λ c. search rules) (λ c. search rules) returns returns-2)
+pub hand_place_spec : {M : Type 1} → statement M
+hand_place_spec = tie.close (tie.spec (λ c. search rules) (λ c. search rules) returns returns-2)

@@ -9,5 +9,5 @@ returns c = rw c.before.wait.given.1
 returns-2 : tie.Need-returns-2
 returns-2 c = rw c.before.wait2.given.1
 
-pub hand-wait-spec : {M : Type 1} → statement M
-hand-wait-spec = tie.close (tie.spec (λ c. search rules) (λ c. search rules) returns returns-2)
+pub hand_wait_spec : {M : Type 1} → statement M
+hand_wait_spec = tie.close (tie.spec (λ c. search rules) (λ c. search rules) returns returns-2)

@@ -8,8 +8,8 @@ returns-2 c =
     let k = c.before.before.before in
     rw k.before.before.before.before.known.given.1 k.hand-bytes.ensures
 
-pub hand-spec : {M : Type 1} → statement M
-hand-spec =
+pub hand_spec : {M : Type 1} → statement M
+hand_spec =
     tie.close
     (tie.spec
     (λ c. search rules)

@@ -26,7 +26,7 @@ returns c =
     let e = whole_is a.words a.bytes.now a.t a.p a.h a.numbers.now a.values.now (tried n.before) in
     rw e (rw n.count.ensures at k.hand-counts.ensures)
 
-pub hand-bytes-spec : {M : Type 1} → statement M
-hand-bytes-spec =
+pub hand_bytes_spec : {M : Type 1} → statement M
+hand_bytes_spec =
     tie.close
     (tie.spec (λ c κs. search rules) count-requires hand-counts-requires (λ c. search rules) (λ c. search rules) returns (λ c. search rules))

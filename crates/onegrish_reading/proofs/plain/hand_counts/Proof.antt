@@ -31,8 +31,8 @@ returns-2 c =
     let whole = a.answer.ensures ∙ ap answer_of is ∙ of-counts g.words g.counts taken in
     ap answered_done (rw (whole, three, four) at k.hand-reading.ensures)
 
-pub hand-counts-spec : {M : Type 1} → statement M
-hand-counts-spec =
+pub hand_counts_spec : {M : Type 1} → statement M
+hand_counts_spec =
     tie.close
     (tie.spec
     (λ c κs. search rules)

@@ -23,5 +23,5 @@ returns-4 c =
     let e = c.before.before in
     rw (e.before.if1.false, sym e.are-enabled.ensures ∙ not-false _ c.before.if2.false, le-leb 3 _ c.if3.false)
 
-pub is-tried-spec : {M : Type 1} → statement M
-is-tried-spec = tie.close (tie.spec returns (λ c κs. search rules) returns-2 returns-3 returns-4)
+pub is_tried_spec : {M : Type 1} → statement M
+is_tried_spec = tie.close (tie.spec returns (λ c κs. search rules) returns-2 returns-3 returns-4)

@@ -20,8 +20,8 @@ returns-4 : tie.Need-returns-4
 unfolding cell_answer
 returns-4 c = rw c.before.cell.given.1
 
-pub cell-number-spec : {M : Type 1} → statement M
-cell-number-spec =
+pub cell_number_spec : {M : Type 1} → statement M
+cell_number_spec =
     tie.close
     (tie.spec
     (λ c. search rules)

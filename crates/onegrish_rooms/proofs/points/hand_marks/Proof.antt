@@ -29,8 +29,8 @@ returns-3 c = rw (lt-leb 3 _ c.if2.false, le-leb 3 _ c.before.if1.true)
 returns-4 : tie.Need-returns-4
 returns-4 c = rw (lt-leb 3 _ c.if1.false)
 
-pub hand-marks-spec : {M : Type 1} → statement M
-hand-marks-spec =
+pub hand_marks_spec : {M : Type 1} → statement M
+hand_marks_spec =
     tie.close
     (tie.spec
     (λ c. search rules)

@@ -10,5 +10,5 @@ returns c = rw (le-leb 3 _ c.before.before.before.before.if1.true, c.before.befo
 returns-2 : tie.Need-returns-2
 returns-2 c = rw (lt-leb 3 _ c.if1.false)
 
-pub hand-verdicts-spec : {M : Type 1} → statement M
-hand-verdicts-spec = tie.close (tie.spec (λ c κs. search rules) (λ c. search rules) returns returns-2)
+pub hand_verdicts_spec : {M : Type 1} → statement M
+hand_verdicts_spec = tie.close (tie.spec (λ c κs. search rules) (λ c. search rules) returns returns-2)

@@ -11,8 +11,8 @@ slice-write-lent-2 c = simp length-set (omega arith)
 returns : tie.Need-returns
 returns c = rw (c.verdict-number3.ensures, c.before.verdict-number2.ensures, c.before.before.verdict-number.ensures)
 
-pub lay-verdicts-spec : {M : Type 1} → statement M
-lay-verdicts-spec =
+pub lay_verdicts_spec : {M : Type 1} → statement M
+lay_verdicts_spec =
     tie.close
     (tie.spec
     (λ c κs. search rules)

@@ -10,5 +10,5 @@ returns c = rw (eq-eqb _ _ c.if1.true, to_z-of_z c.before.ranges.value)
 returns-2 : tie.Need-returns-2
 returns-2 c = rw (ne_eqb _ _ c.if1.false)
 
-pub take-channel-spec : {M : Type 1} → statement M
-take-channel-spec = tie.close (tie.spec returns returns-2)
+pub take_channel_spec : {M : Type 1} → statement M
+take_channel_spec = tie.close (tie.spec returns returns-2)

@@ -9,5 +9,5 @@ returns c = rw (ne_eqb _ _ c.if1.true)
 returns-2 : tie.Need-returns-2
 returns-2 c = rw (eq-eqb _ _ c.if1.false)
 
-pub hand-count-spec : {M : Type 1} → statement M
-hand-count-spec = tie.close (tie.spec returns returns-2)
+pub hand_count_spec : {M : Type 1} → statement M
+hand_count_spec = tie.close (tie.spec returns returns-2)

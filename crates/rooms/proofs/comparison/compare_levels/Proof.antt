@@ -6,5 +6,5 @@ use Rattle.rooms.proofs.comparison.compare_levels.Tie as tie
 returns : tie.Need-returns
 returns c = rw (c.compare-channels.ensures, c.before.channel2.ensures, c.before.before.channel.ensures)
 
-pub compare-levels-spec : {M : Type 1} → statement M
-compare-levels-spec = tie.close (tie.spec (λ c κs. search rules) (λ c κs. search rules) (λ c κs. search rules) returns)
+pub compare_levels_spec : {M : Type 1} → statement M
+compare_levels_spec = tie.close (tie.spec (λ c κs. search rules) (λ c κs. search rules) (λ c κs. search rules) returns)

@@ -6,5 +6,5 @@ use Rattle.rooms.proofs.comparison.compare_temperatures.Tie as tie
 returns : tie.Need-returns
 returns c = rw (c.compare-channels.ensures, c.before.temperature2.ensures, c.before.before.temperature.ensures)
 
-pub compare-temperatures-spec : {M : Type 1} → statement M
-compare-temperatures-spec = tie.close (tie.spec (λ c κs. search rules) (λ c κs. search rules) (λ c κs. search rules) returns)
+pub compare_temperatures_spec : {M : Type 1} → statement M
+compare_temperatures_spec = tie.close (tie.spec (λ c κs. search rules) (λ c κs. search rules) (λ c κs. search rules) returns)

@@ -13,6 +13,6 @@ returns-2 c =
     let fits : SFits w64 told.0.0 = search rules in
     rw (c.judge.ensures, c.before.distance.ensures, to_z-of_z fits, to_z-of_z s.before.before.ranges.a, told.1)
 
-pub compare-with-spec : {M : Type 1} → statement M
-compare-with-spec =
+pub compare_with_spec : {M : Type 1} → statement M
+compare_with_spec =
     tie.close (tie.spec (λ c. search rules) (λ c. search rules) (λ c κs. search rules) (λ c κs. tt) (λ c. search rules) returns-2)

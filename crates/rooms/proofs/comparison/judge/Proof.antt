@@ -9,5 +9,5 @@ returns c = search cases
 returns-2 : tie.Need-returns-2
 returns-2 c = search cases
 
-pub judge-spec : {M : Type 1} → statement M
-judge-spec = tie.close (tie.spec returns returns-2)
+pub judge_spec : {M : Type 1} → statement M
+judge_spec = tie.close (tie.spec returns returns-2)

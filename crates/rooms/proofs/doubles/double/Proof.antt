@@ -8,8 +8,8 @@ returns-4 : tie.Need-returns-4
 unfolding of_bits
 returns-4 c = rw c.enum_told.given.1
 
-pub double-spec : {M : Type 1} → statement M
-double-spec =
+pub double_spec : {M : Type 1} → statement M
+double_spec =
     tie.close
     (tie.spec
     (λ c. search rules)

@@ -15,8 +15,8 @@ returns c =
       flags.before.before.double.ensures,
     )
 
-pub lay-spec : {M : Type 1} → statement M
-lay-spec =
+pub lay_spec : {M : Type 1} → statement M
+lay_spec =
     tie.close
     (tie.spec
     (λ c κs. search rules)

@@ -9,5 +9,5 @@ returns : tie.Need-returns
 unfolding div over of_int of_bits
 returns c = search rules
 
-pub pascals-spec : {M : Type 1} → statement M
-pascals-spec = tie.close (tie.spec (λ c. search rules) returns)
+pub pascals_spec : {M : Type 1} → statement M
+pascals_spec = tie.close (tie.spec (λ c. search rules) returns)

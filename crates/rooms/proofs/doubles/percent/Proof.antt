@@ -9,5 +9,5 @@ returns : tie.Need-returns
 unfolding div over of_int of_bits
 returns c = search rules
 
-pub percent-spec : {M : Type 1} → statement M
-percent-spec = tie.close (tie.spec (λ c. search rules) returns)
+pub percent_spec : {M : Type 1} → statement M
+percent_spec = tie.close (tie.spec (λ c. search rules) returns)

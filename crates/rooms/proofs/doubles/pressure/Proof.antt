@@ -9,5 +9,5 @@ returns c = rw c.before.answer.given.1
 returns-2 : tie.Need-returns-2
 returns-2 c = rw (c.pascals.ensures, c.before.before.answer2.given.1)
 
-pub pressure-spec : {M : Type 1} → statement M
-pressure-spec = tie.close (tie.spec (λ c. search rules) (λ c. search rules) (λ c κs. tt) returns returns-2)
+pub pressure_spec : {M : Type 1} → statement M
+pressure_spec = tie.close (tie.spec (λ c. search rules) (λ c. search rules) (λ c κs. tt) returns returns-2)

@@ -18,5 +18,5 @@ returns-2 c =
     let fits : Fits w32 told.0.0 = search rules in
     rw told.1 (ap Known (to_z_pos w64 (omega (arith, fits.fits))))
 
-pub channel-spec : {M : Type 1} → statement M
-channel-spec = tie.close (tie.spec (λ c. search rules) (λ c. search rules) (λ c. search rules) returns returns-2)
+pub channel_spec : {M : Type 1} → statement M
+channel_spec = tie.close (tie.spec (λ c. search rules) (λ c. search rules) (λ c. search rules) returns returns-2)

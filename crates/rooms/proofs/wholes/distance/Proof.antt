@@ -39,5 +39,5 @@ returns c = below _ _ c.if1.true ∙ learned c.before
 returns-2 : tie.Need-returns-2
 returns-2 c = above _ _ c.if1.false ∙ learned c.before
 
-pub distance-spec : {M : Type 1} → statement M
-distance-spec = tie.close (tie.spec (λ c κs. search rules) (λ c κs. search rules) (λ c. search rules) returns returns-2)
+pub distance_spec : {M : Type 1} → statement M
+distance_spec = tie.close (tie.spec (λ c κs. search rules) (λ c κs. search rules) (λ c. search rules) returns returns-2)

@@ -82,5 +82,5 @@ returns-2 c =
     let s = c.before.ranges.z in
     rw (to_z-of_z s, (up _ s c.if1.false).is)
 
-pub raise-spec : {M : Type 1} → statement M
-raise-spec = tie.close (tie.spec sub-result cast-result returns cast-result-2 add-result returns-2)
+pub raise_spec : {M : Type 1} → statement M
+raise_spec = tie.close (tie.spec sub-result cast-result returns cast-result-2 add-result returns-2)

@@ -18,5 +18,5 @@ returns c = rw c.before.answer.given.1
 returns-2 : tie.Need-returns-2
 returns-2 c = rw (to_z-of_z (value-fits c), to_z-of_z (sfits_widen tt (value-fits c)), c.before.answer2.given.1)
 
-pub temperature-spec : {M : Type 1} → statement M
-temperature-spec = tie.close (tie.spec (λ c. search rules) (λ c. search rules) cast-t5 returns returns-2)
+pub temperature_spec : {M : Type 1} → statement M
+temperature_spec = tie.close (tie.spec (λ c. search rules) (λ c. search rules) cast-t5 returns returns-2)

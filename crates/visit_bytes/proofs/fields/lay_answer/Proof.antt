@@ -26,8 +26,8 @@ same-length-2 c = search rules
 returns-2 : tie.Need-returns-2
 returns-2 c = rw c.before.before.before.before.before.answer2.given.1 c.before.before.lay-missing.ensures
 
-pub lay-answer-spec : {M : Type 1} → statement M
-lay-answer-spec =
+pub lay_answer_spec : {M : Type 1} → statement M
+lay_answer_spec =
     tie.close
     (tie.spec
     enum-known-answer

@@ -32,8 +32,8 @@ same_length c = search rules
 returns : tie.Need-returns
 returns c = three-over _ _ _ _ _ (search rules)
 
-pub lay-header-spec : {M : Type 1} → statement M
-lay-header-spec =
+pub lay_header_spec : {M : Type 1} → statement M
+lay_header_spec =
     tie.close
     (tie.spec
     slice-write-out

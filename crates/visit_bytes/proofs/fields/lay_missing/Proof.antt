@@ -41,8 +41,8 @@ same_length c = search rules
 returns : tie.Need-returns
 returns c = five-over _ _ _ _ _ _ _ (search rules)
 
-pub lay-missing-spec : {M : Type 1} → statement M
-lay-missing-spec =
+pub lay_missing_spec : {M : Type 1} → statement M
+lay_missing_spec =
     tie.close
     (tie.spec
     slice-write-out

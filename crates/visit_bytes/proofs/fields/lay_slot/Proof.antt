@@ -42,8 +42,8 @@ returns c =
     slot-over _ _ _ _ _ _ _ _ _ _ _ _ sizes.before.before.before.requires sizes.before.answer.ensures.0 sizes.answer2.ensures.0
     first.lay-value.ensures second.lay-answer.ensures third.lay-answer2.ensures c.before.before.lay-answer3.ensures
 
-pub lay-slot-spec : {M : Type 1} → statement M
-lay-slot-spec =
+pub lay_slot_spec : {M : Type 1} → statement M
+lay_slot_spec =
     tie.close
     (tie.spec
     add-second

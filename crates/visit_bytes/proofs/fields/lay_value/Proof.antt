@@ -62,8 +62,8 @@ same_length c = search rules
 returns : tie.Need-returns
 returns c = seven-over _ _ _ _ _ _ _ _ _ (search rules)
 
-pub lay-value-spec : {M : Type 1} → statement M
-lay-value-spec =
+pub lay_value_spec : {M : Type 1} → statement M
+lay_value_spec =
     tie.close
     (tie.spec
     slice-write-out

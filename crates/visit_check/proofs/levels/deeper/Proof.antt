@@ -12,5 +12,5 @@ sub-t3 c = search rules
 returns-2 : tie.Need-returns-2
 returns-2 c = deeper-more _ c.if1.false
 
-pub deeper-spec : {M : Type 1} → statement M
-deeper-spec = tie.close (tie.spec returns sub-t3 returns-2)
+pub deeper_spec : {M : Type 1} → statement M
+deeper_spec = tie.close (tie.spec returns sub-t3 returns-2)

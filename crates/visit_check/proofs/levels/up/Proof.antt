@@ -14,5 +14,5 @@ returns c = rw (lt-ltb _ _ c.if1.true, add-one)
 returns-2 : tie.Need-returns-2
 returns-2 c = search cases
 
-pub up-spec : {M : Type 1} → statement M
-up-spec = tie.close (tie.spec add-t3 returns returns-2)
+pub up_spec : {M : Type 1} → statement M
+up_spec = tie.close (tie.spec add-t3 returns returns-2)

@@ -23,8 +23,8 @@ returns c = rw (c.before.before.before.answer.given.1, c.at_most.ensures, c.befo
 returns-2 : tie.Need-returns-2
 returns-2 c = rw c.before.before.answer2.given.1 c.is-missing.ensures
 
-pub is-within-spec : {M : Type 1} → statement M
-is-within-spec =
+pub is_within_spec : {M : Type 1} → statement M
+is_within_spec =
     tie.close
     (tie.spec
     enum-known-answer

@@ -30,8 +30,8 @@ returns c =
       time.before.most.ensures,
     )
 
-pub slot-fits-spec : {M : Type 1} → statement M
-slot-fits-spec =
+pub slot_fits_spec : {M : Type 1} → statement M
+slot_fits_spec =
     tie.close
     (tie.spec
     most-requires

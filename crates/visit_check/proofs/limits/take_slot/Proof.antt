@@ -12,5 +12,5 @@ returns c = search cases
 returns-2 : tie.Need-returns-2
 returns-2 c = search cases
 
-pub take-slot-spec : {M : Type 1} → statement M
-take-slot-spec = tie.close (tie.spec slot-fits-requires returns returns-2)
+pub take_slot_spec : {M : Type 1} → statement M
+take_slot_spec = tie.close (tie.spec slot-fits-requires returns returns-2)

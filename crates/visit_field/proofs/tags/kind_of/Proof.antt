@@ -37,8 +37,8 @@ returns-5 c =
     at_place _ _ _ _ t.enum-told5.given.1
     (c.among10.ensures ∙ ap (cond (eqb t.before.before.args.tag 6) kind.Value) c.before.among9.ensures)
 
-pub kind-of-spec : {M : Type 1} → statement M
-kind-of-spec =
+pub kind_of_spec : {M : Type 1} → statement M
+kind_of_spec =
     tie.close
     (tie.spec
     (λ c. search rules)

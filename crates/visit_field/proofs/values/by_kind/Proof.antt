@@ -20,8 +20,8 @@ returns-4 c = at-kind _ _ _ _ _ _ _ c.before.enum-told4.given.1 c.missing.ensure
 returns-5 : tie.Need-returns-5
 returns-5 c = at-kind _ _ _ _ _ _ _ c.enum-told5.given.1 refl
 
-pub by-kind-spec : {M : Type 1} → statement M
-by-kind-spec =
+pub by_kind_spec : {M : Type 1} → statement M
+by_kind_spec =
     tie.close
     (tie.spec
     (λ c. search rules)

@@ -20,8 +20,8 @@ returns-4 c = missing-high _ _ _ _ (omega arith) (omega arith) (omega arith) (om
 returns-5 : tie.Need-returns-5
 returns-5 c = missing-told _ _ _ _ (omega arith) (omega arith) _ (omega arith) (omega arith) (omega arith)
 
-pub missing-spec : {M : Type 1} → statement M
-missing-spec =
+pub missing_spec : {M : Type 1} → statement M
+missing_spec =
     tie.close
     (tie.spec
     returns

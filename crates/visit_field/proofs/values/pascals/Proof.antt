@@ -14,6 +14,6 @@ returns-2 c = pascals-over _ _ _ (omega arith) (omega arith)
 returns-3 : tie.Need-returns-3
 returns-3 c = pascals-told _ _ _ _ (omega arith) c.before.word.ensures (omega arith)
 
-pub pascals-spec : {M : Type 1} → statement M
-pascals-spec =
+pub pascals_spec : {M : Type 1} → statement M
+pascals_spec =
     tie.close (tie.spec returns (λ c. search rules) (λ c κs. search rules) returns-2 (λ c. search rules) (λ c. search rules) (λ c. search rules) returns-3)

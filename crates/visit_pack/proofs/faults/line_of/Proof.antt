@@ -24,8 +24,8 @@ loop-again c = tt
 returns : tie.Need-returns invariant-loop decreases-loop
 returns c = tt
 
-pub line-of-spec : {M : Type 1} → statement M
-line-of-spec =
+pub line_of_spec : {M : Type 1} → statement M
+line_of_spec =
     tie.close
     (tie.spec
     invariant-loop

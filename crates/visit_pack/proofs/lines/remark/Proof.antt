@@ -32,8 +32,8 @@ loop-again c = tt
 returns-2 : tie.Need-returns-2 invariant-loop decreases-loop
 returns-2 c = tt
 
-pub remark-spec : {M : Type 1} → statement M
-remark-spec =
+pub remark_spec : {M : Type 1} → statement M
+remark_spec =
     tie.close
     (tie.spec
     invariant-loop

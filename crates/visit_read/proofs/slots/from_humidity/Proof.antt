@@ -21,8 +21,8 @@ returns-3 c =
 returns-4 : tie.Need-returns-4
 returns-4 c = humidity-refused _ _ _ _ _ _ _ _ _ c.before.before.before.Front-at.ensures _ _ c.before.f3.given.1
 
-pub from-humidity-spec : {M : Type 1} → statement M
-from-humidity-spec =
+pub from_humidity_spec : {M : Type 1} → statement M
+from_humidity_spec =
     tie.close
     (tie.spec
     (λ c κs. search rules)

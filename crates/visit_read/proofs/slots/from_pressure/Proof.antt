@@ -21,8 +21,8 @@ returns-2 c =
 returns-3 : tie.Need-returns-3
 returns-3 c = pressure-refused _ _ _ _ _ _ _ _ c.before.before.before.Front-at.ensures _ _ c.before.f3.given.1
 
-pub from-pressure-spec : {M : Type 1} → statement M
-from-pressure-spec =
+pub from_pressure_spec : {M : Type 1} → statement M
+from_pressure_spec =
     tie.close
     (tie.spec
     (λ c κs. search rules)

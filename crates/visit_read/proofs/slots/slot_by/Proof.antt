@@ -12,7 +12,7 @@ returns c =
 returns-2 : tie.Need-returns-2
 returns-2 c = slot-none _ _ _ _ _ _ _ c.before.a2.given.1
 
-pub slot-by-spec : {M : Type 1} → statement M
-slot-by-spec =
+pub slot_by_spec : {M : Type 1} → statement M
+slot_by_spec =
     tie.close
     (tie.spec (λ c. search rules) (λ c κs. search rules) (λ c. search rules) (λ c. search rules) returns returns-2)

@@ -16,8 +16,8 @@ returns-3 c = whole-told _ _ _ _ c.before.before.before.before.before.read-field
 returns-4 : tie.Need-returns-4
 returns-4 c = whole-refused _ _ _ _ c.before.before.before.before.before.read-field.ensures.0 _ _ c.before.r3.given.1
 
-pub read-whole-spec : {M : Type 1} → statement M
-read-whole-spec =
+pub read_whole_spec : {M : Type 1} → statement M
+read_whole_spec =
     tie.close
     (tie.spec
     (λ c κs. search rules)

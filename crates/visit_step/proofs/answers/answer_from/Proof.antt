@@ -9,5 +9,5 @@ returns c = search cases
 returns-2 : tie.Need-returns-2
 returns-2 c = search cases
 
-pub answer-from-spec : {M : Type 1} → statement M
-answer-from-spec = tie.close (tie.spec returns returns-2)
+pub answer_from_spec : {M : Type 1} → statement M
+answer_from_spec = tie.close (tie.spec returns returns-2)

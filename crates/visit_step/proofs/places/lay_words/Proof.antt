@@ -9,8 +9,8 @@ use Rattle.visit_step.proofs.places.lay_words.Tie as tie
 returns : tie.Need-returns
 returns c = eight-over _ _ _ (search rules) (search rules)
 
-pub lay-words-spec : {M : Type 1} → statement M
-lay-words-spec =
+pub lay_words_spec : {M : Type 1} → statement M
+lay_words_spec =
     tie.close
     (tie.spec
     (λ c. search rules)

@@ -11,8 +11,8 @@ returns c =
     let a = t.before.before.before.before.args in
     rw (c.before.answer-from3.ensures, p.answer-from2.ensures, t.answer-from.ensures) (slot-words a.list.now a.at)
 
-pub slot-from-spec : {M : Type 1} → statement M
-slot-from-spec =
+pub slot_from_spec : {M : Type 1} → statement M
+slot_from_spec =
     tie.close
     (tie.spec
     (λ c. search rules)

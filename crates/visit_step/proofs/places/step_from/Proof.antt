@@ -22,8 +22,8 @@ returns-4 c =
     let a = c.before.before.before.before.before.args in
     step-stray a.list.now a.at c.before.before.if1.false c.before.if2.false c.if3.false
 
-pub step-from-spec : {M : Type 1} → statement M
-step-from-spec =
+pub step_from_spec : {M : Type 1} → statement M
+step_from_spec =
     tie.close
     (tie.spec
     (λ c. search rules)

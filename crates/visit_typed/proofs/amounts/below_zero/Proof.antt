@@ -17,8 +17,8 @@ returns-3 : tie.Need-returns-3
 unfolding below_zero
 returns-3 c = search cases
 
-pub below-zero-spec : {M : Type 1} → statement M
-below-zero-spec =
+pub below_zero_spec : {M : Type 1} → statement M
+below_zero_spec =
     tie.close
     (tie.spec
     returns

@@ -17,8 +17,8 @@ returns-3 : tie.Need-returns-3
 unfolding celsius
 returns-3 c = search cases
 
-pub celsius-spec : {M : Type 1} → statement M
-celsius-spec =
+pub celsius_spec : {M : Type 1} → statement M
+celsius_spec =
     tie.close
     (tie.spec
     (λ c. search rules)

@@ -16,8 +16,8 @@ returns-2 : tie.Need-returns-2
 unfolding is_point
 returns-2 c = (search cases, λ h. absurd (let z : ◌≡◌ {A = ℕ} 0 1 = cc in omega arith))
 
-pub is-point-spec : {M : Type 1} → statement M
-is-point-spec =
+pub is_point_spec : {M : Type 1} → statement M
+is_point_spec =
     tie.close
     (tie.spec
     (λ c. search rules)

@@ -21,8 +21,8 @@ returns-4 : tie.Need-returns-4
 unfolding pascals
 returns-4 c = search cases
 
-pub pascals-spec : {M : Type 1} → statement M
-pascals-spec =
+pub pascals_spec : {M : Type 1} → statement M
+pascals_spec =
     tie.close
     (tie.spec
     returns

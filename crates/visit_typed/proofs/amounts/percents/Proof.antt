@@ -21,8 +21,8 @@ returns-4 : tie.Need-returns-4
 unfolding percents
 returns-4 c = search cases
 
-pub percents-spec : {M : Type 1} → statement M
-percents-spec =
+pub percents_spec : {M : Type 1} → statement M
+percents_spec =
     tie.close
     (tie.spec
     returns

@@ -18,8 +18,8 @@ returns-3 : tie.Need-returns-3
 unfolding digit
 returns-3 c = (search cases, omega arith)
 
-pub digit-spec : {M : Type 1} → statement M
-digit-spec =
+pub digit_spec : {M : Type 1} → statement M
+digit_spec =
     tie.close
     (tie.spec
     returns

@@ -14,8 +14,8 @@ returns-2 : tie.Need-returns-2
 unfolding digit_at
 returns-2 c = (search cases, omega arith, λ h. absurd (omega arith))
 
-pub digit-at-spec : {M : Type 1} → statement M
-digit-at-spec =
+pub digit_at_spec : {M : Type 1} → statement M
+digit_at_spec =
     tie.close
     (tie.spec
     (λ c. search rules)

@@ -12,8 +12,8 @@ returns-2 : tie.Need-returns-2
 unfolding is_decimal
 returns-2 c = search cases
 
-pub is-decimal-spec : {M : Type 1} → statement M
-is-decimal-spec =
+pub is_decimal_spec : {M : Type 1} → statement M
+is_decimal_spec =
     tie.close
     (tie.spec
     returns

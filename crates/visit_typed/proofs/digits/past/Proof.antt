@@ -16,8 +16,8 @@ returns-2 : tie.Need-returns-2
 unfolding past
 returns-2 c = rw (← c.before.digit_at.ensures.0, le-ltb _ 10 c.if1.false)
 
-pub past-spec : {M : Type 1} → statement M
-past-spec =
+pub past_spec : {M : Type 1} → statement M
+past_spec =
     tie.close
     (tie.spec
     (λ c κs. tt)

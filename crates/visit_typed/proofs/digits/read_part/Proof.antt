@@ -38,8 +38,8 @@ loop-again c =
 returns : tie.Need-returns invariant-loop decreases-loop
 returns c = (part_end _ _ _ _ _ c.loop-test.false c.before.loop.invariant.1, c.before.loop.invariant.0)
 
-pub read-part-spec : {M : Type 1} → statement M
-read-part-spec =
+pub read_part_spec : {M : Type 1} → statement M
+read_part_spec =
     tie.close
     (tie.spec
     invariant-loop

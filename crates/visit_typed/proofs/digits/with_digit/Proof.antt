@@ -14,8 +14,8 @@ returns-2 : tie.Need-returns-2
 unfolding with_digit
 returns-2 c = (search cases, λ h. h)
 
-pub with-digit-spec : {M : Type 1} → statement M
-with-digit-spec =
+pub with_digit_spec : {M : Type 1} → statement M
+with_digit_spec =
     tie.close
     (tie.spec
     (λ c. search rules)

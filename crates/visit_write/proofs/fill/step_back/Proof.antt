@@ -18,6 +18,6 @@ same_length c = search rules
 returns : tie.Need-returns
 returns c = by_parts _ _ _ _ _ _ _ c.before.before.before.lay-back.ensures c.moved.ensures
 
-pub step-back-spec : {M : Type 1} → statement M
-step-back-spec =
+pub step_back_spec : {M : Type 1} → statement M
+step_back_spec =
     tie.close (tie.spec sub-lay-back lay-back-requires moved-requires same_length returns)

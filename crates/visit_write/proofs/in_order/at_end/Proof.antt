@@ -20,5 +20,5 @@ returns-2 c = rw c.enum-told2.given.1
 returns-3 : tie.Need-returns-3
 returns-3 c = search rules
 
-pub at-end-spec : {M : Type 1} → statement M
-at-end-spec = tie.close (tie.spec enum_told enum-told-2 enum-told-3 returns returns-2 returns-3)
+pub at_end_spec : {M : Type 1} → statement M
+at_end_spec = tie.close (tie.spec enum_told enum-told-2 enum-told-3 returns returns-2 returns-3)

@@ -51,8 +51,8 @@ at-end-requires c κs = search rules
 returns-2 : tie.Need-returns-2 invariant-loop decreases-loop
 returns-2 c = c.at-end.ensures ∙ checking-end _ _ _ _ c.before.before.loop.invariant c.before.loop-test.false
 
-pub check-spec : {M : Type 1} → statement M
-check-spec =
+pub check_spec : {M : Type 1} → statement M
+check_spec =
     tie.close
     (tie.spec
     invariant-loop

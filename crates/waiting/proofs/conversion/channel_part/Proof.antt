@@ -19,8 +19,8 @@ returns-2 : tie.Need-returns-2
 unfolding channel_part
 returns-2 c = (rw (← c.before.samples.ensures) (search cases), omega (arith, product c))
 
-pub channel-part-spec : {M : Type 1} → statement M
-channel-part-spec =
+pub channel_part_spec : {M : Type 1} → statement M
+channel_part_spec =
     tie.close
     (tie.spec
     (λ c κs. search rules)

@@ -9,5 +9,5 @@ returns c = cc
 returns-2 : tie.Need-returns-2
 returns-2 c = cc
 
-pub figures-of-spec : {M : Type 1} → statement M
-figures-of-spec = tie.close (tie.spec (λ c. search rules) (λ c. search rules) returns returns-2)
+pub figures_of_spec : {M : Type 1} → statement M
+figures_of_spec = tie.close (tie.spec (λ c. search rules) (λ c. search rules) returns returns-2)

@@ -8,8 +8,8 @@ returns : tie.Need-returns
 unfolding microseconds
 returns c = rw (c.before.channel-part3.ensures.0, c.before.before.channel-part2.ensures.0, c.before.before.before.channel-part.ensures.0)
 
-pub microseconds-spec : {M : Type 1} → statement M
-microseconds-spec =
+pub microseconds_spec : {M : Type 1} → statement M
+microseconds_spec =
     tie.close
     (tie.spec
     (λ c κs. search rules)

@@ -24,5 +24,5 @@ returns : tie.Need-returns
 unfolding samples
 returns c = search entry
 
-pub samples-spec : {M : Type 1} → statement M
-samples-spec = tie.close (tie.spec (λ c. search rules) returns)
+pub samples_spec : {M : Type 1} → statement M
+samples_spec = tie.close (tie.spec (λ c. search rules) returns)
