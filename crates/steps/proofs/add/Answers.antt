@@ -1,5 +1,4 @@
 -- `steps::add` meets its contract: the operation on both operands is the definition.
-use Rattle.std.proofs.Common.{rules}
 use Rattle.steps.specs.Step.{added}
 use Rattle.steps.proofs.add.Goals as goal
 

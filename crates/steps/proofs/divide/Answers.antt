@@ -1,6 +1,5 @@
 -- `steps::divide` meets its contract: the divisor's test stands after both operands.
 use mathlib.Core.Path.{◌∙◌}
-use Rattle.std.proofs.Common.{rules}
 use Rattle.steps.proofs.Laws.{divided-is}
 use Rattle.steps.proofs.divide.Goals as goal
 

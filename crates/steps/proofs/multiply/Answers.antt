@@ -1,5 +1,4 @@
 -- `steps::multiply` meets its contract: the operation on both operands is the definition.
-use Rattle.std.proofs.Common.{rules}
 use Rattle.steps.specs.Step.{multiplied}
 use Rattle.steps.proofs.multiply.Goals as goal
 

@@ -1,5 +1,4 @@
 -- `steps::subtract` meets its contract: the operation on both operands is the definition.
-use Rattle.std.proofs.Common.{rules}
 use Rattle.steps.specs.Step.{subtracted}
 use Rattle.steps.proofs.subtract.Goals as goal
 

@@ -49,5 +49,11 @@ returns-then-spare-ge65 c =
     let k : 9223372036854775807 ≤ c.largest_product-most.result = rw c.largest_product-most.ensures (largest-le (beq c.is_negative.result c.is_negative-2.result)) in
     sym (le-leb (c.magnitude-p.result * c.magnitude-q.result) c.largest_product-most.result (omega arith)) ∙ said c.before.before
 
+pub overflow_mul-result : goal.overflow_mul-result
+overflow_mul-result c = record { fits = near 64 c.before.before (omega arith) }
+
+pub nonzero_div-result : goal.nonzero_div-result
+nonzero_div-result c = positive c.before.before c.if-spare-ge64.false
+
 pub returns : goal.returns
 returns c = quotient-test _ _ _ (positive c.before.before c.if-spare-ge64.false) ∙ said c.before.before.before

@@ -1,7 +1,6 @@
 -- `steps::operation::floor` meets its contract: the machine's shift rounds down, and from 63 on every amount gives what 63 gives.
 use Prim.Native.Nat.{◌^◌}
 use mathlib.Core.Path.{ap, ◌∙◌}
-use Rattle.std.proofs.Common.{rules}
 use Rattle.steps.specs.Step.{kept}
 use Rattle.steps.proofs.Laws.{back, shift_fits, floor-far}
 use Rattle.steps.proofs.operation.floor.Goals as goal

@@ -3,8 +3,7 @@ use mathlib.Core.Path.{◌≡◌, ap}
 use native.Mathlib.Omega.{arith}
 use mir.Syntax.{w64}
 use mir.Val.{of_z}
-use Rattle.std.proofs.Common.{rules}
-use Rattle.steps.proofs.Laws.{back, from_bits, power, scaled-zero, scaled-far, scaled-63}
+use Rattle.steps.proofs.Laws.{back, power, scaled-far}
 use Rattle.steps.proofs.operation.scale.Goals as goal
 use Rattle.steps.proofs.operation.scale.Goals.{Else-amount-gt63}
 
