@@ -1,7 +1,7 @@
 -- Worked records: the paper's two fields, a record read and written, and each refusal with its offset or the step's place.
 use Prim.Native.Nat.{ℕ, zero, suc}
 use mathlib.Core.List.{List, [], ◌∷◌, ◌++◌}
-use mathlib.Core.Path.{◌≡◌, refl}
+use mathlib.Core.Path.{refl}
 use lib.ListN.{length}
 use Rattle.laws.specs.Tables.{◌gives◌, AllHold}
 use Rattle.visit.specs.declared.Place.TheVariants as place
@@ -9,7 +9,7 @@ use Rattle.visit.specs.Steps.{Answer, value, missing, Step, opened, slot, closed
 use Rattle.visit.specs.Words.{words, words_of}
 use Rattle.visit.specs.Tree.{exact, pascals, gone, reading_bytes}
 use Rattle.visit.specs.Reader.{Read, read, refused, taken, by_kind, front, field_from, slot_of, walk, body_from, field_of, record_from, read_record}
-use Rattle.visit.specs.Writer.{slot_fits, turn, wrong, checked, frames}
+use Rattle.visit.specs.Writer.{slot_fits, turn, checked, frames}
 use Rattle.visit.specs.Lent.{number_at, write_steps}
 use Rattle.paper.specs.Answers.{given}
 use Rattle.paper.specs.Answers.{refused as unwritten}

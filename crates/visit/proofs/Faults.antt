@@ -10,7 +10,6 @@ use Rattle.visit.specs.declared.Place.{Place}
 use Rattle.visit.specs.declared.Place.TheVariants as place
 use Rattle.visit.specs.declared.Kind.{Kind}
 use Rattle.visit.specs.declared.Kind.TheVariants as kind
-use Rattle.visit.specs.declared.Holds.{Holds}
 use Rattle.visit.specs.declared.Holds.TheVariants as holds
 use Rattle.visit.specs.declared.Stage.{Stage}
 use Rattle.visit.specs.declared.Stage.TheVariants as stage
@@ -18,7 +17,7 @@ use Rattle.visit.specs.Steps.{Answer, value, missing, Step, opened, slot, closed
 use Rattle.visit.specs.Tags as tag
 use Rattle.visit.specs.Reader.{kind_of, Front, holding, telling, failing, front, Field, grouped, answered, bad, field_from, Read, read, refused, taken, framed_steps, by_kind}
 use Rattle.visit.specs.Reader.{ended, joined, on_answer, slot_of, on_group, walk, body_from, body_of, field_of, record_from, read_record}
-use Rattle.visit.specs.Writer.{Turn, onward, halt, slot_fits, deeper, turn, slot_taken, from_nothing, from_groups, from_slot, from_open, Checked, fine, wrong, at_end, go_on, checked}
+use Rattle.visit.specs.Writer.{Turn, onward, halt, slot_fits, deeper, turn, Checked, fine, wrong, at_end, go_on, checked}
 
 abbrev Fault : ℕ → Type 0
 Fault n = (18 ≤ n) × (n ≤ 22)

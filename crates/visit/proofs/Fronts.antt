@@ -14,7 +14,7 @@ use Rattle.visit.specs.declared.Kind.{Kind}
 use Rattle.visit.specs.declared.Kind.TheVariants as kind
 use Rattle.visit.specs.Tags as tags
 use Rattle.visit.specs.Steps.{Answer, value, missing}
-use Rattle.visit.specs.Tree.{Reading, exact, pascals, gone, Group, tag_of, most, has_value, has_pascals, has_missing, Within, four_bytes, reading_bytes, framed, Bytes}
+use Rattle.visit.specs.Tree.{Reading, exact, pascals, gone, tag_of, most, has_value, has_pascals, has_missing, Within, four_bytes, reading_bytes, framed, Bytes}
 use Rattle.visit.specs.Tree.{answer_of}
 use Rattle.visit.specs.Reader.{kind_of, Front, holding, telling, failing, front, word_of, is_missing, taken, by_kind}
 use Rattle.visit.proofs.Apart.{apart}

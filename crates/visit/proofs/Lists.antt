@@ -1,16 +1,17 @@
 -- Steps laid down as words are read back as they were.
-use Prim.Native.Nat.{ℕ, zero, suc, ◌+◌, ◌*◌, ◌/◌, ◌<◌}
+use Prim.Native.Nat.{ℕ, zero, suc, ◌*◌, ◌/◌, ◌<◌}
 use native.Mathlib.Omega.{arith}
 use borrow.Author.Tests.{ne_eqb}
 use mathlib.Core.List.{List, [], ◌∷◌, ◌++◌, append-nil, append_assoc}
-use mathlib.Core.Path.{◌≡◌, refl, ap, ◌∙◌}
+use mathlib.Core.Path.{◌≡◌, refl, ap}
 use lib.ListN.{length, length-append}
 use lib.Seq.{drop_at}
 use Rattle.visit.specs.declared.Place.{Place}
+use Rattle.visit.specs.declared.Place.TheVariants as place
 use Rattle.visit.specs.Steps.{Answer, value, missing, Step, opened, slot, closed, stray, around}
-use Rattle.visit.specs.Words.{words_each, number_word, value_word, mark_only, words, words_of, answer_from, step_from, steps_first, from_words}
+use Rattle.visit.specs.Words.{words_each, number_word, value_word, words, words_of, answer_from, step_from, steps_first, from_words}
 use Rattle.visit.specs.Tree.{Reading, exact, pascals, gone, Group, Groups, of_slot, of_groups, none, more, Within, Valid, AllValid}
-use Rattle.visit.specs.Tree.{answer_of, steps_in, steps_in_all, steps_of, IsRecord}
+use Rattle.visit.specs.Tree.{answer_of, steps_in, steps_in_all, steps_of}
 use Rattle.visit.specs.Kept.{Numbered, AllNumbered, EachNumbered, KeepsSteps}
 use Rattle.visit.specs.Records.{Listed}
 
@@ -74,7 +75,7 @@ mutual
   unfolding steps_in
 
   in-numbered : (g : Group) (l : ℕ) → Valid g l → EachNumbered (steps_in g)
-  in-numbered (of_slot time t p h) l v = ((reading-numbered _ t v.1.0, (reading-numbered _ p v.1.1.0, reading-numbered _ h v.1.1.1)), tt)
+  in-numbered (of_slot time t p h) l v = ((reading-numbered place.Temperature t v.1.0, (reading-numbered place.Pressure p v.1.1.0, reading-numbered place.Humidity h v.1.1.1)), tt)
   in-numbered (of_groups g gs) zero v = absurd v
   in-numbered (of_groups g gs) (suc l) v = numbered-append (around (steps_in g)) (steps_in_all gs) (around-numbered (steps_in g) (in-numbered g l v.0)) (all-numbered gs l v.1)
 

@@ -1,10 +1,10 @@
 -- Reading and writing are of exactly the records.
-use Prim.Native.Nat.{ℕ, ◌*◌, ◌/◌, ◌≤◌, ◌<◌}
+use Prim.Native.Nat.{ℕ, ◌/◌, ◌≤◌, ◌<◌}
 use native.Mathlib.Omega.{arith}
 use borrow.Author.Tests.{ltb-false, lt-ltb, le-ltb}
 use mathlib.Core.Bool.{Bool, true, false, cond}
 use mathlib.Core.List.{List, [], ◌∷◌, ◌++◌}
-use mathlib.Core.Path.{◌≡◌, refl, sym, ap, subst, ◌∙◌}
+use mathlib.Core.Path.{◌≡◌, refl, ap, subst, ◌∙◌}
 use lib.Dec.{ltb}
 use lib.ListN.{length, drop}
 use Rattle.visit.specs.declared.Stage.TheVariants as stage
@@ -15,8 +15,8 @@ use Rattle.visit.specs.Tree.{Group, Valid, IsRecord, Bytes, encode, steps_of, pl
 use Rattle.visit.specs.Reader.{Read, read, read_record}
 use Rattle.visit.specs.Reader.{refused as refused_at}
 use Rattle.visit.specs.Writer.{Checked, fine, wrong, checked, bytes_of}
-use Rattle.visit.specs.Lent.{number_at, read_by, read_into, write_by, write_steps, write_into}
-use Rattle.visit.specs.Records.{laid_over, handed, RecordBytes, ReadsRecords, RecordSteps, WritesRecords}
+use Rattle.visit.specs.Lent.{read_by, read_into, write_by, write_steps, write_into}
+use Rattle.visit.specs.Records.{handed, RecordBytes, ReadsRecords, RecordSteps, WritesRecords}
 use Rattle.visit.proofs.Lists.{list_length}
 use Rattle.visit.proofs.Reading.{record-read}
 use Rattle.visit.proofs.Accepting.{record-from}

@@ -1,5 +1,5 @@
 -- The writer's checks stop at the first step with which no record goes on.
-use Prim.Native.Nat.{ℕ, suc, ◌+◌}
+use Prim.Native.Nat.{ℕ, ◌+◌}
 use native.Mathlib.Omega.{arith}
 use mathlib.Core.Bool.{Bool, true, false, cond}
 use mathlib.Core.List.{List, [], ◌∷◌, ◌++◌, append-nil, append_assoc}
@@ -15,7 +15,7 @@ use Rattle.visit.specs.Words.{from_words}
 use Rattle.visit.specs.Tree.{Group, Valid, steps_of}
 use Rattle.visit.specs.Writer.{Turn, onward, halt, turn, Checked, fine, wrong, at_end, go_on, checked, bytes_of}
 use Rattle.visit.specs.Lent.{number_at, write_by, write_steps, write_into}
-use Rattle.visit.specs.Refusals.{open_from, nothing, last_from, Begins, AtStep, AtEnd, RefusesFirst}
+use Rattle.visit.specs.Refusals.{open_from, nothing, last_from, AtStep, AtEnd, RefusesFirst}
 use Rattle.visit.proofs.Apart.{apart}
 use Rattle.visit.proofs.Checking.{checked-tree}
 use Rattle.visit.proofs.Stages.{Reaches, checked-on, reached-tells, refused-number, begins}

@@ -1,14 +1,14 @@
 -- A record has at most 7 steps for each 31 bytes.
-use Prim.Native.Nat.{ℕ, zero, suc, ◌+◌, ◌*◌, ◌-◌, ◌≤◌}
+use Prim.Native.Nat.{ℕ, zero, suc, ◌+◌, ◌*◌, ◌≤◌}
 use native.Mathlib.Omega.{arith}
 use mathlib.Core.List.{List, [], ◌∷◌, ◌++◌}
-use mathlib.Core.Path.{◌≡◌, refl}
+use mathlib.Core.Path.{◌≡◌}
 use lib.ListN.{length, length-append}
 use Rattle.visit.specs.declared.Place.{Place}
 use Rattle.visit.specs.declared.Place.TheVariants as place
 use Rattle.visit.specs.Steps.{Step, closed, around}
 use Rattle.visit.specs.Tree.{Reading, exact, pascals, gone, Group, Groups, of_slot, of_groups, none, more, Valid, AllValid, reading_bytes, framed, inside, in_all, encode}
-use Rattle.visit.specs.Tree.{IsRecord, steps_in, steps_in_all, steps_of}
+use Rattle.visit.specs.Tree.{steps_in, steps_in_all, steps_of}
 use Rattle.visit.specs.Records.{MostSteps}
 
 reading-least : (p : Place) (r : Reading) → 5 ≤ length (reading_bytes p r)

@@ -3,16 +3,16 @@ use Prim.Native.Nat.{ℕ, ◌*◌, ◌/◌, ◌≤◌, ◌<◌}
 use native.Mathlib.Omega.{arith}
 use borrow.Author.Tests.{ltb-true, ltb-false}
 use mathlib.Core.Bool.{Bool, true, false}
-use mathlib.Core.List.{List, [], ◌∷◌, ◌++◌}
+use mathlib.Core.List.{List, [], ◌∷◌}
 use mathlib.Core.Path.{◌≡◌, refl, sym, ap, subst, ◌∙◌}
 use lib.Dec.{ltb}
 use lib.ListN.{length, take, drop}
 use lib.Seq.{take_at}
 use Rattle.visit.specs.Steps.{Step}
 use Rattle.visit.specs.Words.{words_each, words_of, from_words}
-use Rattle.visit.specs.Tree.{Group, IsRecord, Bytes, encode, steps_of, plain}
+use Rattle.visit.specs.Tree.{Bytes, encode, steps_of, plain}
 use Rattle.visit.specs.Lent.{read_into, write_into}
-use Rattle.visit.specs.Records.{Call, laid_over, handed, RecordBytes, ReadsRecords, RecordSteps, WritesRecords, Again, RoundTrips}
+use Rattle.visit.specs.Records.{Call, handed, ReadsRecords, WritesRecords, Again, RoundTrips}
 use Rattle.visit.proofs.Lists.{list_length, listed}
 use Rattle.visit.proofs.Plain.{plain-length}
 use Rattle.visit.proofs.Records.{reads-records, writes-records}

@@ -1,6 +1,6 @@
 -- A list of steps as flat numbers, eight words a step: what it is, the time, and of each channel its number and its value.
 -- The number is 0 for a value, and else that of a missing answer, beside which no value is looked at.
-use Rattle.std.specs.Prelude.{ℕ, zero, suc, ◌+◌, ◌*◌, ◌/◌, cond, List, [], ◌∷◌, ◌++◌, eqb, length, get_or, drop}
+use Rattle.std.specs.Prelude.{ℕ, zero, suc, ◌/◌, cond, List, [], ◌∷◌, ◌++◌, eqb, length, get_or, drop}
 use Rattle.visit.specs.Steps.{Answer, value, missing, Step, opened, slot, closed, stray}
 
 abbrev pub words_each : ℕ
