@@ -4,7 +4,7 @@
 ghost use Rattle.std.specs.Prelude.{◌≤◌, length as size};
 ghost use Rattle.visit_input.specs.Input.{Within, Fits};
 
-use libc::STDIN_FILENO;
+use std::io::Read;
 
 // How many bytes standard input has, as far as the buffer holds them, or that it could not be read.
 #[derive(Drop)]
@@ -20,14 +20,14 @@ enum More {
     Failed,
 }
 
-// Reads standard input to its end, or until the buffer is full.
+// Reads the input to its end, or until the buffer is full.
 // What is read can't be said beforehand; how many bytes there are lies within the buffer.
-pub fn read_all(buffer: &mut [u8]) -> Input
+pub fn read_all<R: Read>(input: &mut R, buffer: &mut [u8]) -> Input
     ensures { Within result (size buffer.old) }
 {
     let mut done = 0;
     while done < buffer.len() {
-        match read_from(buffer, done) {
+        match read_from(input, buffer, done) {
             More::Failed => return Input::Unread,
             More::Read(n) => {
                 if n == 0 {
@@ -41,13 +41,12 @@ pub fn read_all(buffer: &mut [u8]) -> Input
 }
 
 // One read, into what is left of the buffer from a place on.
-fn read_from(buffer: &mut [u8], done: usize) -> More
+fn read_from<R: Read>(input: &mut R, buffer: &mut [u8], done: usize) -> More
     requires { done ≤ size buffer.old }
     ensures { Fits result done (size buffer.old) }
 {
-    let got = libc::read(STDIN_FILENO, &mut buffer[done..]);
-    if got < 0 {
-        return More::Failed;
+    match input.read(&mut buffer[done..]) {
+        Ok(n) => More::Read(n),
+        Err(_) => More::Failed,
     }
-    More::Read(io::count(got, &buffer[done..]))
 }
