@@ -4,3 +4,4 @@ pub mod Bounds
 pub mod FirstReady
 pub mod OneAnswer
 pub mod Examples
+pub mod Polls

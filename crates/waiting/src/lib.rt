@@ -9,14 +9,14 @@ mod conversion;
 mod status;
 
 // Which time is asked for: the longest that a conversion can take, or the usual one.
-#[derive(Drop)]
+#[derive(Clone, Copy)]
 pub enum Estimate {
     Maximum,
     Typical,
 }
 
 // Microseconds: a conversion's base, each sample, and what pressure or humidity takes more if it has any.
-#[derive(Drop)]
+#[derive(Clone, Copy)]
 pub struct Figures {
     pub base: u32,
     pub sample: u32,
@@ -24,14 +24,14 @@ pub struct Figures {
 }
 
 // How long a conversion takes, or the number that says why there is no answer.
-#[derive(Drop)]
+#[derive(Clone, Copy)]
 pub enum Wait {
     Microseconds(u32),
     Refused(u8),
 }
 
 // Where the first ready status byte stands and the polls made, or that there was none in so many.
-#[derive(Drop)]
+#[derive(Clone, Copy)]
 pub enum Polled {
     Ready { place: usize, polls: usize },
     Never { polls: usize },
