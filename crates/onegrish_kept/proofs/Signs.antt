@@ -1,12 +1,12 @@
 -- Words of 16 bits with a sign, of 8 bits, and in a wider type. Assumes nothing.
-use Prim.Native.Nat.{ℕ, suc, ◌+◌, ◌-◌, ◌^◌, ◌≤◌, ◌<◌}
+use Prim.Native.Nat.{ℕ, suc, ◌-◌, ◌<◌}
 use mathlib.Core.Path.{◌≡◌, refl, sym, ap}
-use mathlib.Core.Bool.{Bool, true, false, ◌&&◌}
+use mathlib.Core.Bool.{true, false, ◌&&◌}
 use mathlib.Core.List.{List}
 use native.Mathlib.Omega.{arith}
-use lib.Dec.{T, leb, ltb}
+use lib.Dec.{T, leb}
 use lib.IntN.{ℤ, pos, negsuc, nat_abs, ◌+ℤ◌}
-use lib.Signed.{mag, non_neg, le_z, lt_z}
+use lib.Signed.{non_neg, lt_z}
 use mir.Syntax.{w8, w16, w32}
 use mir.Val.{Fits, SFits}
 use borrow.Author.Tests.{leb-true, ltb-true, le-ltb}

@@ -6,7 +6,6 @@ use Rattle.paper.specs.Numbers as no
 use Rattle.calibration.specs.declared.TemperatureWords.{TemperatureWords}
 use Rattle.calibration.specs.declared.PressureWords.{PressureWords}
 use Rattle.calibration.specs.declared.HumidityWords.{HumidityWords}
-use Rattle.calibration.specs.declared.Words.{Words}
 use Rattle.calibration.specs.declared.Calibration.{Calibration}
 use Rattle.calibration.specs.declared.Calibration.TheVariants as blocks
 
