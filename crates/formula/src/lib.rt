@@ -9,34 +9,34 @@ ghost use Rattle.formula.specs.Plain.{is_usual, channel_plainly, temperature_pla
 use steps::{Num, Signed, subtract};
 
 // What stands in the place of a channel that has no value: the paper's number, 10 to 14.
-#[derive(Drop)]
+#[derive(Clone, Copy)]
 pub struct Missing {
     pub number: u8,
 }
 
 // A temperature in hundredths of a degree with the fine temperature, or what stands in their place.
-#[derive(Drop)]
+#[derive(Clone, Copy)]
 pub enum TemperatureAnswer {
     Known { value: i32, fine: i32 },
     Missing(Missing),
 }
 
 // A pressure in Pa times 256 or a humidity in %RH times 1024, or what stands in its place.
-#[derive(Drop)]
+#[derive(Clone, Copy)]
 pub enum ChannelAnswer {
     Known(u32),
     Missing(Missing),
 }
 
 // What a plain road gives of a pressure or a humidity: the value where the road is taken to its end, and else 0 and false.
-#[derive(Drop)]
+#[derive(Clone, Copy)]
 pub struct PlainChannel {
     pub taken: bool,
     pub value: u32,
 }
 
 // What the plain road of the temperature gives: both values where it is taken, and else 0 and false.
-#[derive(Drop)]
+#[derive(Clone, Copy)]
 pub struct PlainTemperature {
     pub taken: bool,
     pub value: i32,
