@@ -3,7 +3,7 @@
 #![tactic(auto)]
 
 ghost use Rattle.std.specs.Prelude.{◌≡◌, pos, true};
-ghost use Rattle.steps.specs.Work.{run, given, num, ◌-◌};
+ghost use Rattle.steps.specs.Work.{run, given, num, ◌-ʷ◌};
 ghost use Rattle.formula.specs.Plain.{is_usual, channel_plainly, temperature_plainly};
 
 use steps::{Num, Signed, subtract};
@@ -106,7 +106,7 @@ pub fn signed32(x: i32) -> Num
 
 // How far a fine temperature lies above where a formula starts, as one step.
 pub fn difference(width: Signed, fine: i32, start: u32) -> Num
-    ensures { result ≡ run width (given fine - num start) }
+    ensures { result ≡ run width (given fine -ʷ num start) }
 {
     subtract(width, signed32(fine), unsigned(start))
 }

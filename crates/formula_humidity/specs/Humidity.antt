@@ -2,7 +2,7 @@
 -- The maker's one variable v_x1_u32r is v here.
 use Rattle.std.specs.Prelude.{ℕ, min, ℤ, pos, negsuc, ◌+ℤ◌, ◌-ℤ◌, ◌*ℤ◌}
 use Rattle.steps.specs.declared.Signed.TheVariants.{Bits32}
-use Rattle.steps.specs.Work.{Work, given, num, share, run, ◌+◌, ◌-◌, ◌*◌, ◌<<◌, ◌>>◌}
+use Rattle.steps.specs.Work.{Work, given, num, share, run, ◌+ʷ◌, ◌-ʷ◌, ◌*ʷ◌, ◌<<◌, ◌>>◌}
 use Rattle.steps.specs.Needs.{◌<<ℤ◌, ◌>>ℤ◌}
 use Rattle.calibration.specs.declared.HumidityWords.{HumidityWords}
 use Rattle.formula.specs.declared.ChannelAnswer.{ChannelAnswer}
@@ -10,7 +10,7 @@ use Rattle.formula.specs.Answers.{answered}
 
 -- v = (t_fine - 76800);
 unfoldable pub difference_line : ℤ → Work
-difference_line fine = given fine - num 76800
+difference_line fine = given fine -ʷ num 76800
 
 -- v = (((((adc_H << 14) - (H4 << 20) - (H5 * v)) + 16384) >> 15)
 unfoldable pub level_factor : HumidityWords → ℕ → ℤ → Work
@@ -18,29 +18,29 @@ level_factor words count v =
     let adc = num count in
     let H4 = given words.h4 in
     let H5 = given words.h5 in
-    (adc << 14) - (H4 << 20) - H5 * given v + num 16384 >> 15
+    (adc << 14) -ʷ (H4 << 20) -ʷ H5 *ʷ given v +ʷ num 16384 >> 15
 
 --     * (((((((v * H6) >> 10) * (((v * H3) >> 11) + 32768)) >> 10)
 unfoldable pub bend_factor : HumidityWords → ℤ → Work
 bend_factor words v =
     let H3 = num words.h3 in
     let H6 = given words.h6 in
-    (given v * H6 >> 10) * ((given v * H3 >> 11) + num 32768) >> 10
+    (given v *ʷ H6 >> 10) *ʷ ((given v *ʷ H3 >> 11) +ʷ num 32768) >> 10
 
 --     + 2097152) * H2 + 8192) >> 14));
 unfoldable pub gain_factor : HumidityWords → ℤ → Work
 gain_factor words v =
     let H2 = given words.h2 in
-    (bend_factor words v + num 2097152) * H2 + num 8192 >> 14
+    (bend_factor words v +ʷ num 2097152) *ʷ H2 +ʷ num 8192 >> 14
 
 unfoldable pub product_line : HumidityWords → ℕ → ℤ → Work
-product_line words count v = level_factor words count v * gain_factor words v
+product_line words count v = level_factor words count v *ʷ gain_factor words v
 
 -- v = (v - (((((v >> 15) * (v >> 15)) >> 7) * H1) >> 4));
 unfoldable pub correction_line : HumidityWords → ℤ → Work
 correction_line words v =
     let H1 = num words.h1 in
-    given v - (((given v >> 15) * (given v >> 15) >> 7) * H1 >> 4)
+    given v -ʷ (((given v >> 15) *ʷ (given v >> 15) >> 7) *ʷ H1 >> 4)
 
 unfoldable pub humidity_lines : HumidityWords → ℤ → ℕ → Work
 humidity_lines words fine count =

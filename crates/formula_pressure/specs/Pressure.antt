@@ -3,7 +3,7 @@ use Rattle.std.specs.Prelude.{ℕ, Bool, false, leb, ℤ, pos, negsuc, ◌+ℤ�
 use Rattle.paper.specs.Numbers as no
 use Rattle.steps.specs.declared.Signed.TheVariants.{Bits64}
 use Rattle.steps.specs.Step.{is_nonzero}
-use Rattle.steps.specs.Work.{Work, given, num, share, test, run, ◌+◌, ◌-◌, ◌*◌, ◌/◌, ◌<<◌, ◌>>◌}
+use Rattle.steps.specs.Work.{Work, given, num, share, test, run, ◌+ʷ◌, ◌-ʷ◌, ◌*ʷ◌, ◌/ʷ◌, ◌<<◌, ◌>>◌}
 use Rattle.steps.specs.Needs.{◌/ℤ◌, ◌<<ℤ◌, ◌>>ℤ◌}
 use Rattle.calibration.specs.declared.PressureWords.{PressureWords}
 use Rattle.formula.specs.declared.ChannelAnswer.{ChannelAnswer}
@@ -11,7 +11,7 @@ use Rattle.formula.specs.Answers.{answered}
 
 -- var1 = t_fine - 128000;
 unfoldable pub difference_line : ℤ → Work
-difference_line fine = given fine - num 128000
+difference_line fine = given fine -ʷ num 128000
 
 -- var2 = var1 * var1 * P6;
 -- var2 = var2 + ((var1 * P5) << 17);
@@ -22,9 +22,9 @@ offset_lines words difference =
     let P5 = given words.p5 in
     let P6 = given words.p6 in
     let var1 = given difference in
-    share (var1 * var1 * P6) λ var2.
-    share (given var2 + (var1 * P5 << 17)) λ var2.
-    given var2 + (P4 << 35)
+    share (var1 *ʷ var1 *ʷ P6) λ var2.
+    share (given var2 +ʷ (var1 *ʷ P5 << 17)) λ var2.
+    given var2 +ʷ (P4 << 35)
 
 -- var1 = ((var1 * var1 * P3) >> 8) + ((var1 * P2) << 12);
 -- var1 = (((1 << 47) + var1)) * P1 >> 33;
@@ -34,8 +34,8 @@ scale_lines words difference =
     let P2 = given words.p2 in
     let P3 = given words.p3 in
     let var1 = given difference in
-    share ((var1 * var1 * P3 >> 8) + (var1 * P2 << 12)) λ var1.
-    ((num 1 << 47) + given var1) * P1 >> 33
+    share ((var1 *ʷ var1 *ʷ P3 >> 8) +ʷ (var1 *ʷ P2 << 12)) λ var1.
+    ((num 1 << 47) +ʷ given var1) *ʷ P1 >> 33
 
 -- if (var1 == 0) return 0;  (here the number for a divisor zero in the place of the 0)
 unfoldable pub divisor_lines : PressureWords → ℤ → Work
@@ -46,26 +46,26 @@ divisor_lines words difference = test is_nonzero no.divisor_zero (scale_lines wo
 unfoldable pub quotient_lines : ℕ → ℤ → ℤ → Work
 quotient_lines count var2 var1 =
     let adc = num count in
-    share (num 1048576 - adc) λ p.
-    ((given p << 31) - given var2) * num 3125 / given var1
+    share (num 1048576 -ʷ adc) λ p.
+    ((given p << 31) -ʷ given var2) *ʷ num 3125 /ʷ given var1
 
 -- var1 = (P9 * (p >> 13) * (p >> 13)) >> 25;
 unfoldable pub curve_line : PressureWords → ℤ → Work
 curve_line words p =
     let P9 = given words.p9 in
-    P9 * (given p >> 13) * (given p >> 13) >> 25
+    P9 *ʷ (given p >> 13) *ʷ (given p >> 13) >> 25
 
 -- var2 = (P8 * p) >> 19;
 unfoldable pub slope_line : PressureWords → ℤ → Work
 slope_line words p =
     let P8 = given words.p8 in
-    P8 * given p >> 19
+    P8 *ʷ given p >> 19
 
 -- p = ((p + var1 + var2) >> 8) + (P7 << 4);
 unfoldable pub last_line : PressureWords → ℤ → ℤ → ℤ → Work
 last_line words p var1 var2 =
     let P7 = given words.p7 in
-    (given p + given var1 + given var2 >> 8) + (P7 << 4)
+    (given p +ʷ given var1 +ʷ given var2 >> 8) +ʷ (P7 << 4)
 
 -- the lines after the division
 unfoldable pub refined_lines : PressureWords → ℤ → Work

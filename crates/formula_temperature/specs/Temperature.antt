@@ -3,7 +3,7 @@ use Rattle.std.specs.Prelude.{ℕ, ℤ, pos, ◌+ℤ◌, ◌-ℤ◌, ◌*ℤ◌}
 use Rattle.steps.specs.declared.Signed.TheVariants.{Bits32}
 use Rattle.steps.specs.declared.Num.{Num}
 use Rattle.steps.specs.declared.Num.TheVariants.{Value, Broke}
-use Rattle.steps.specs.Work.{Work, given, num, share, run, ◌+◌, ◌-◌, ◌*◌, ◌<<◌, ◌>>◌}
+use Rattle.steps.specs.Work.{Work, given, num, share, run, ◌+ʷ◌, ◌-ʷ◌, ◌*ʷ◌, ◌<<◌, ◌>>◌}
 use Rattle.steps.specs.Needs.{◌<<ℤ◌, ◌>>ℤ◌}
 use Rattle.calibration.specs.declared.TemperatureWords.{TemperatureWords}
 use Rattle.formula.specs.declared.TemperatureAnswer.{TemperatureAnswer}
@@ -16,7 +16,7 @@ slope_line words count =
     let adc = num count in
     let T1 = num words.t1 in
     let T2 = given words.t2 in
-    ((adc >> 3) - (T1 << 1)) * T2 >> 11
+    ((adc >> 3) -ʷ (T1 << 1)) *ʷ T2 >> 11
 
 -- var2 = (((((adc_T >> 4) - T1) * ((adc_T >> 4) - T1)) >> 12) * T3) >> 14;
 unfoldable pub curve_line : TemperatureWords → ℕ → Work
@@ -24,18 +24,18 @@ curve_line words count =
     let adc = num count in
     let T1 = num words.t1 in
     let T3 = given words.t3 in
-    (((adc >> 4) - T1) * ((adc >> 4) - T1) >> 12) * T3 >> 14
+    (((adc >> 4) -ʷ T1) *ʷ ((adc >> 4) -ʷ T1) >> 12) *ʷ T3 >> 14
 
 -- t_fine = var1 + var2;
 unfoldable pub fine_lines : TemperatureWords → ℕ → Work
 fine_lines words count =
     share (slope_line words count) λ var1.
     share (curve_line words count) λ var2.
-    given var1 + given var2
+    given var1 +ʷ given var2
 
 -- T = (t_fine * 5 + 128) >> 8;
 unfoldable pub degrees_line : ℤ → Work
-degrees_line fine = given fine * num 5 + num 128 >> 8
+degrees_line fine = given fine *ʷ num 5 +ʷ num 128 >> 8
 
 unfoldable pub temperature_formula : TemperatureWords → ℕ → Work
 temperature_formula words count = share (fine_lines words count) λ fine. degrees_line fine

@@ -4,7 +4,7 @@ use mathlib.Core.List.{List, [], ◌∷◌, ◌++◌, Memᴰ}
 use Rattle.steps.specs.declared.Signed.TheVariants.{Bits64}
 use Rattle.steps.specs.declared.Num.{Num}
 use Rattle.steps.specs.declared.Num.TheVariants.{Value, Broke}
-use Rattle.steps.specs.Work.{Work, given, share, run, ◌+◌, ◌<<◌, ◌>>◌}
+use Rattle.steps.specs.Work.{Work, given, share, run, ◌+ʷ◌, ◌<<◌, ◌>>◌}
 use Rattle.calibration.specs.declared.PressureWords.{PressureWords}
 use Rattle.calibration.specs.Calibration.{calibrated}
 use Rattle.formula.specs.declared.TemperatureAnswer.{TemperatureAnswer}
@@ -77,7 +77,7 @@ written10 device lent = of_encoded (encoded_write device (0xF4 ∷ 0x27 ∷ []) 
 
 -- K2 with the last line as it is printed without the bracket
 unfoldable pub unbracketed_line : PressureWords → ℤ → ℤ → ℤ → Work
-unbracketed_line words q var1 var2 = (given q + given var1 + given var2 >> 8) + given words.p7 << 4
+unbracketed_line words q var1 var2 = (given q +ʷ given var1 +ʷ given var2 >> 8) +ʷ given words.p7 << 4
 
 abbrev of_unbracketed : TemperatureAnswer → PressureWords → ℕ → List ℤ
 of_unbracketed (heat.Missing m) words count = pos m.number ∷ []
