@@ -5,7 +5,7 @@ ghost use Rattle.std.specs.Prelude.{◌≡◌, [], ◌∷◌};
 ghost use Rattle.data.specs.Counts as counted;
 
 // The counts of the three channels.
-#[derive(Drop)]
+#[derive(Clone, Copy)]
 pub struct Counts {
     pub temperature: u32,
     pub pressure: u32,

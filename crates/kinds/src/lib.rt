@@ -5,7 +5,7 @@ ghost use Rattle.std.specs.Prelude.{◌≡◌};
 ghost use Rattle.kinds.specs.Chips as chips;
 
 // The kind of a part. It is chosen with the fresh state, and stays.
-#[derive(Drop)]
+#[derive(Clone, Copy)]
 pub enum Kind {
     Bme280,
     Bmp280,
@@ -13,7 +13,7 @@ pub enum Kind {
 
 // What a kind of part has of its own: the byte at 0xD0; whether there are humidity and its register F2; the last data address; the lengths of the
 // calibration blocks and of the data; and the data bytes of the fresh state. Data bytes have eight places, and those past a part's own are 0.
-#[derive(Drop)]
+#[derive(Clone, Copy)]
 pub struct Chip {
     pub id: u8,
     pub humidity: bool,
