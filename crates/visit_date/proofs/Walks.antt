@@ -1,8 +1,6 @@
 -- A walk over years or months, one step on: the rest of the walk from where it has come is the whole walk.
-use Prim.Native.Nat.{ℕ, zero, suc, ◌+◌, ◌-◌, ◌≤◌, ◌<◌}
-use native.Mathlib.Omega.{arith}
+use Rattle.std.proofs.Common.{ℕ, zero, suc, ◌+◌, ◌-◌, ◌≤◌, ◌<◌, arith, ◌≡◌}
 use borrow.Author.Tests.{lt-ltb, le-ltb}
-use mathlib.Core.Path.{◌≡◌}
 use Rattle.visit_date.specs.declared.Walked.{Walked}
 use Rattle.visit_date.specs.Dates.{walk}
 
