@@ -49,7 +49,7 @@ pub const SLOT: u32 = 2;
 pub const CLOSE: u32 = 3;
 
 // The places that a field can stand at: where only a group may stand, first in a group, and in a slot after its time.
-#[derive(Drop)]
+#[derive(Clone, Copy)]
 pub enum Place {
     Group,
     First,
@@ -59,7 +59,7 @@ pub enum Place {
 }
 
 // What a tag means at a place.
-#[derive(Drop)]
+#[derive(Clone, Copy)]
 pub enum Kind {
     Group,
     Value,
@@ -69,14 +69,14 @@ pub enum Kind {
 }
 
 // A value's word, or the number of a missing answer. A temperature's word is its two's complement.
-#[derive(Drop)]
+#[derive(Clone, Copy)]
 pub enum Answer {
     Value(u32),
     Missing(u32),
 }
 
 // A visit is a list of these. A stray step is none that a visit can have.
-#[derive(Drop)]
+#[derive(Clone, Copy)]
 pub enum Step {
     Open,
     Slot {
@@ -90,7 +90,7 @@ pub enum Step {
 }
 
 // What the innermost open group holds so far.
-#[derive(Drop)]
+#[derive(Clone, Copy)]
 pub enum Holds {
     Nothing,
     Groups,
@@ -98,7 +98,7 @@ pub enum Holds {
 }
 
 // Where a list of steps stands: before the record, in a group under which so many levels may still be opened, or after the record.
-#[derive(Drop)]
+#[derive(Clone, Copy)]
 pub enum Stage {
     Start,
     Open(u8, Holds),
@@ -106,7 +106,7 @@ pub enum Stage {
 }
 
 // What a step makes of a stage: the next one, or the number that says why there is none.
-#[derive(Drop)]
+#[derive(Clone, Copy)]
 pub enum Turn {
     Onward(Stage),
     Halt(u8),

@@ -10,7 +10,7 @@ use visit::Step;
 const MOST: u32 = 65535;
 
 // Where a walk over steps stands: how many groups are open, and how many groups of each level the one around them has so far.
-#[derive(Drop)]
+#[derive(Clone, Copy)]
 pub struct Place {
     pub level: u8,
     pub house: u32,

@@ -1,6 +1,5 @@
 -- The cases of the definition.
 use Rattle.visit_place.specs.Places.{after}
-use Rattle.std.proofs.Common.{rules}
 use Rattle.visit_place.proofs.after.Goals as goal
 
 pub returns-in-Open : goal.returns-in-Open

@@ -1,7 +1,6 @@
 -- A level less, where there is one.
 use Prim.Native.Nat.{◌-◌}
 use Rattle.visit_place.specs.Places.{back}
-use Rattle.std.proofs.Common.{rules}
 use mathlib.Core.Path.{◌≡◌, refl}
 use native.Mathlib.Omega.{arith}
 use Rattle.visit_place.proofs.back.Goals as goal

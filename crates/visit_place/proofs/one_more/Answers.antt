@@ -1,7 +1,6 @@
 -- The test of the definition.
 use Rattle.laws.specs.Cases.{cases}
 use Rattle.visit_place.specs.Places.{one_more}
-use Rattle.std.proofs.Common.{rules}
 use Rattle.visit_place.proofs.one_more.Goals as goal
 
 pub returns-then-n-lt-MOST : goal.returns-then-n-lt-MOST
