@@ -1,5 +1,5 @@
 -- Words that were written are read again as they were: a statement (proofs/RoundTrip.antt).
-use Rattle.std.specs.Prelude.{ℕ, ◌≤◌, ◌<◌, ◌≡◌, true, List, ℤ, length, take}
+use Rattle.std.specs.Prelude.{◌≤◌, ◌<◌, ◌≡◌, true, List, ℤ, length, take}
 use Rattle.calibration.specs.declared.Words.{Words}
 use Rattle.calibration.specs.declared.Calibration.TheVariants.{Known}
 use Rattle.onegrish_kept.specs.Words.{is_signed_byte, taken}
