@@ -14,7 +14,7 @@ mod verdicts; // verdicts as numbers, and in lent places
 use rooms::{MapPoint, Tolerances};
 
 // What is handed over of a reading: its map point, and the number of each cell.
-#[derive(Drop)]
+#[derive(Clone, Copy)]
 pub struct Marks {
     pub point: MapPoint,
     pub temperature: u8,
