@@ -14,28 +14,28 @@ mod register;
 mod shape;
 
 // The two buses.
-#[derive(Drop)]
+#[derive(Clone, Copy)]
 pub enum Bus {
     I2c,
     Spi,
 }
 
 // The device that a message is for: on I2C at its address, on SPI selected by its own line.
-#[derive(Drop)]
+#[derive(Clone, Copy)]
 pub enum Device {
     At(u8),
     Selected,
 }
 
 // How many bytes were written to the lent buffer, or the number that says why none was.
-#[derive(Drop)]
+#[derive(Clone, Copy)]
 pub enum Encoded {
     Bytes(usize),
     Refused(u8),
 }
 
 // The device, and how many bytes of pairs were written to the lent buffer, or the number that says why none was.
-#[derive(Drop)]
+#[derive(Clone, Copy)]
 pub enum Decoded {
     Pairs { device: Device, bytes: usize },
     Refused(u8),

@@ -8,7 +8,7 @@ use crate::Bus;
 const BIT_7: u8 = 0x80;
 
 // What is done to a register byte.
-#[derive(Drop)]
+#[derive(Clone, Copy)]
 pub(crate) enum Change {
     Keep,
     ClearBit7,
@@ -16,7 +16,7 @@ pub(crate) enum Change {
 }
 
 // What is asked of a register byte: that a write on the bus can have it, or that once changed it may be written.
-#[derive(Drop)]
+#[derive(Clone, Copy)]
 pub(crate) enum Test {
     Carried(Bus),
     Writable(Change),
