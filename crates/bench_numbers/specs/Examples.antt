@@ -16,7 +16,7 @@ pub record Words : Type 0 where
   pub code-out-of-range : argument 67 (letters "256 0 0") 0 [] 0 ≡ (Read 255 3 0, [])
   pub longest-buffer : argument 76 (letters "close 256") 6 [] 0 ≡ (Read 256 9 0, [])
   pub longer-buffer : argument 76 (letters "close 257") 6 [] 0 ≡ (Refused TooLong, [])
-  pub either-case : argument 80 (letters "open f_a") 5 [] 0 ≡ (Read 0xFA 7 0, [])
+  pub either-case : argument 80 (letters "open fA") 5 [] 0 ≡ (Read 0xFA 7 0, [])
   pub three-digits : argument 80 (letters "open F7F") 5 [] 0 ≡ (Refused NotANumber, [])
   -- laid after the byte of an argument before, with what was lent around them as it was
   pub bytes_read : argument 66 (letters "F427 3") 0 (9 ∷ 0 ∷ 0 ∷ 7 ∷ []) 1 ≡ (Read 2 4 3, 9 ∷ 0xF4 ∷ 0x27 ∷ 7 ∷ [])
