@@ -1,8 +1,6 @@
 -- The codes are tested as the definition tests them, and then the sum is the definition's.
-use Rattle.std.proofs.Common.{rules}
 use Rattle.laws.specs.Cases.{cases}
 use Rattle.waiting.specs.Waiting.{waited}
-use Rattle.waiting.proofs.Bounds.{codes, most-figures}
 use Rattle.waiting.proofs.estimate_wait.Goals as goal
 
 pub returns-then-not-are_codes : goal.returns-then-not-are_codes

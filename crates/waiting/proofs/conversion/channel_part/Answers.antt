@@ -1,7 +1,6 @@
 -- The code asks whether there are samples as the definition does, and no code has more than 16, so that the product fits.
 use Prim.Native.Nat.{◌*◌, ◌≤◌}
 use native.Mathlib.Omega.{arith}
-use Rattle.std.proofs.Common.{rules}
 use Rattle.laws.specs.Cases.{cases}
 use Rattle.waiting.specs.Waiting.{channel_part}
 use Rattle.waiting.proofs.Bounds.{most-product}

@@ -1,5 +1,4 @@
 -- The sum is the definition's; no part exceeds 170000, so that it fits.
-use Rattle.std.proofs.Common.{rules}
 use Rattle.waiting.specs.Waiting.{microseconds}
 use Rattle.waiting.proofs.conversion.microseconds.Goals as goal
 

@@ -6,7 +6,6 @@ use mathlib.Core.List.{List}
 use mathlib.Core.Path.{◌≡◌}
 use lib.Dec.{eqb}
 use lib.ListN.{get_or}
-use Rattle.std.proofs.Common.{rules}
 use borrow.Author.Tests.{eqb-true}
 use Rattle.paper.specs.Registers as reg
 use Rattle.waiting.specs.Waiting.{samples}
