@@ -1,5 +1,5 @@
 -- Arguments read: what a decimal, a pair of hex digits and a string of hex pairs stand for, where their words end, and why a word is refused.
-use Rattle.std.specs.Prelude.{ℕ, ◌+◌, ◌-◌, ◌*◌, min, Bool, true, false, cond, List, [], ◌∷◌, eqb, leb, ltb, length, drop, set}
+use Rattle.std.specs.Prelude.{ℕ, ◌+◌, ◌-◌, ◌*◌, min, Bool, false, cond, List, [], ◌∷◌, eqb, leb, ltb, length, drop, set}
 use Rattle.bench_numbers.specs.declared.Reason.TheVariants.{NotANumber, OddHex, TooLong}
 use Rattle.bench_numbers.specs.declared.numbers.Number.{Number}
 use Rattle.bench_numbers.specs.declared.numbers.Number.TheVariants as numbers

@@ -1,5 +1,4 @@
 -- The place was tested against the page's length, as the definition tests it.
-use Rattle.std.proofs.Common.{rules}
 use Rattle.laws.specs.Cases.{cases}
 use Rattle.bench_page.specs.Page.{written_byte}
 use Rattle.bench_page.proofs.write_byte.Goals as goal

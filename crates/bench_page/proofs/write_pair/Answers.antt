@@ -1,7 +1,6 @@
 -- The two digits, one after the other.
 use Rattle.bench_page.specs.Page.{written}
 use Rattle.bench_page.specs.Digits.{pair}
-use Rattle.std.proofs.Common.{rules}
 use Rattle.bench_page.proofs.write_pair.Goals as goal
 
 pub returns : goal.returns

@@ -1,5 +1,5 @@
 -- A minus where the number is below zero, and then how far from zero it lies.
-use Rattle.std.proofs.Common.{ℕ, arith, ltb-true, true, false, List, ◌≡◌, subst, ℤ, pos, negsuc, nat_abs, rules}
+use Rattle.std.proofs.Common.{ℕ, arith, ltb-true, true, false, List, ◌≡◌, subst, ℤ, pos, negsuc, nat_abs}
 use lib.Dec.{T}
 use lib.Signed.{lt_z}
 use mir.Facts.{to_z-of_z}

@@ -1,9 +1,8 @@
 -- The loop keeps that the bytes still to come, written on the page as it is, make the page that the whole text makes.
-use Prim.Native.Nat.{ℕ, ◌≤◌, ◌<◌, ◌+◌, ◌-◌}
-use Rattle.std.proofs.Common.{rules}
+use Prim.Native.Nat.{ℕ, ◌≤◌, ◌<◌, ◌+◌}
 use native.Mathlib.Omega.{arith}
 use mathlib.Core.List.{List}
-use mathlib.Core.Path.{◌≡◌, refl}
+use mathlib.Core.Path.{◌≡◌}
 use lib.ListN.{length, get_or, drop, drop_of_length-le}
 use Rattle.laws.specs.Rest.{rest}
 use Rattle.bench_page.specs.Page.{written_byte, written}

@@ -1,6 +1,4 @@
 -- The name, and then the bytes.
-use mathlib.Core.Path.{refl}
-use Rattle.std.proofs.Common.{rules}
 use Rattle.bench_page.proofs.Laws.{joined}
 use Rattle.bench_row.specs.Row.{buffer}
 use Rattle.bench_row.proofs.write_buffer.Goals as goal

@@ -1,6 +1,5 @@
 -- The tests of the definition; one byte is a text of one.
-use Rattle.std.proofs.Common.{rules}
-use borrow.Author.Tests.{eq-eqb, ne_eqb}
+use borrow.Author.Tests.{ne_eqb}
 use Rattle.bench_page.specs.Page.{written}
 use Rattle.bench_row.proofs.write_place.Goals as goal
 

@@ -1,7 +1,5 @@
 -- The test of the definition; one byte is a text of one.
-use Rattle.std.proofs.Common.{rules}
-use borrow.Author.Tests.{eq-eqb, ne_eqb}
-use mir.Facts.{to_z-of_z}
+use borrow.Author.Tests.{ne_eqb}
 use Rattle.bench_page.specs.Page.{written}
 use Rattle.bench_row.proofs.write_signed_place.Goals as goal
 

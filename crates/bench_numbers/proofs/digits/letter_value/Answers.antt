@@ -1,7 +1,6 @@
 -- The tests of the definition, in its order.
 use Rattle.laws.specs.Cases.{cases}
 use Rattle.bench_numbers.specs.Reading.{letter_value}
-use Rattle.std.proofs.Common.{rules}
 use Rattle.bench_numbers.proofs.digits.letter_value.Goals as goal
 
 pub returns-then-byte-lt65 : goal.returns-then-byte-lt65

@@ -1,7 +1,6 @@
 -- The tests of the definition, in its order.
 use Rattle.laws.specs.Cases.{cases}
 use Rattle.bench_numbers.specs.Reading.{digit_value}
-use Rattle.std.proofs.Common.{rules}
 use Rattle.bench_numbers.proofs.digits.value.Goals as goal
 
 pub returns-then-byte-lt48 : goal.returns-then-byte-lt48

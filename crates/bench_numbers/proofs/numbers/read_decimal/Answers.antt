@@ -1,12 +1,11 @@
 -- The loop keeps that reading on from the value that the digits passed make gives what the whole word gives.
-use Prim.Native.Nat.{ℕ, ◌+◌, ◌*◌, ◌-◌, ◌≤◌, ◌<◌}
-use Rattle.std.proofs.Common.{rules}
+use Prim.Native.Nat.{ℕ, ◌+◌, ◌*◌, ◌≤◌, ◌<◌}
 use borrow.Author.Tests.{lt-ltb, le-ltb}
 use native.Mathlib.Omega.{arith}
 use mathlib.Core.Bool.{Bool, true, false}
 use mathlib.Core.List.{List}
 use mathlib.Core.Path.{◌≡◌, sym, ◌∙◌}
-use lib.ListN.{length, get_or, drop}
+use lib.ListN.{get_or, drop}
 use Rattle.bench_numbers.specs.declared.Reason.TheVariants.{NotANumber}
 use Rattle.bench_numbers.specs.declared.numbers.Number.TheVariants.{Value, Refused}
 use Rattle.bench_numbers.specs.Words.{word, Ends}

@@ -4,7 +4,6 @@ use native.Mathlib.Omega.{arith}
 use Rattle.laws.specs.Cases.{called-yes, called-no}
 use Rattle.bench_numbers.specs.Reading.{octet}
 use Rattle.bench_numbers.proofs.Ending.{two, as_none}
-use Rattle.std.proofs.Common.{rules}
 use Rattle.bench_numbers.proofs.numbers.read_octet.Goals as goal
 
 pub returns-in-Refused : goal.returns-in-Refused

@@ -1,7 +1,5 @@
 -- One character, and that a dash.
 use borrow.Author.Tests.{eq-eqb, ne_eqb}
-use Rattle.std.proofs.Common.{rules}
-use native.Mathlib.Omega.{arith}
 use Rattle.bench_numbers.specs.Reading.{is_dash}
 use Rattle.bench_numbers.proofs.Ending.{as_none}
 use Rattle.bench_numbers.proofs.pairs.is_dash.Goals as goal

@@ -1,20 +1,19 @@
 -- The loop keeps that the pairs still to come, laid after those that are, make what the whole word makes of what was lent.
 -- of a word that has begun, whether one character or more are left
 use Prim.Native.Nat.{ℕ, ◌+◌, ◌-◌, ◌≤◌, ◌<◌}
-use Rattle.std.proofs.Common.{rules}
 use borrow.Author.Tests.{lt-ltb, le-ltb}
 use native.Mathlib.Omega.{arith}
 use mathlib.Core.Bool.{Bool, true, false}
 use mathlib.Core.List.{List, [], ◌∷◌}
-use mathlib.Core.Path.{◌≡◌, refl, sym, ◌∙◌}
-use lib.ListN.{length, drop, set, length-set}
+use mathlib.Core.Path.{◌≡◌, sym, ◌∙◌}
+use lib.ListN.{length, drop, set}
 use Rattle.bench_numbers.specs.declared.Argument.TheVariants as the
 use Rattle.bench_numbers.specs.declared.Reason.{Reason}
 use Rattle.bench_numbers.specs.declared.Reason.TheVariants.{TooLong}
 use Rattle.bench_numbers.specs.declared.pairs.Pair.TheVariants.{Byte, Refused}
 use Rattle.bench_numbers.specs.Words.{word, Ends}
 use Rattle.bench_numbers.specs.Reading.{pair, pairs_laid}
-use Rattle.bench_numbers.proofs.Ending.{Two, two}
+use Rattle.bench_numbers.proofs.Ending.{two}
 use Rattle.bench_numbers.proofs.pairs.lay_pairs.Goals as goal
 
 stops : (start byte : ℕ) (rest : List ℕ) (i : ℕ) (lent : List ℕ) (at : ℕ) (reason : Reason) → pair (byte ∷ rest) ≡ Refused reason → (the.Refused reason, lent) ≡ pairs_laid start (byte ∷ rest) i lent at

@@ -1,7 +1,5 @@
 -- The first character, and then the second, as the definition takes them.
 use borrow.Author.Tests.{lt-ltb, le-ltb}
-use Rattle.std.proofs.Common.{rules}
-use native.Mathlib.Omega.{arith}
 use Rattle.bench_numbers.specs.Reading.{second_digit, pair}
 use Rattle.bench_numbers.proofs.pairs.read_pair.Goals as goal
 

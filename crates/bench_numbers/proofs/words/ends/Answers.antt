@@ -1,5 +1,4 @@
 -- Past the line's end a word has no characters, and before it the character decides.
-use Rattle.std.proofs.Common.{rules}
 use Rattle.bench_numbers.proofs.Ending.{ended, here}
 use Rattle.bench_numbers.proofs.words.ends.Goals as goal
 

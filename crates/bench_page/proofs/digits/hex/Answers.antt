@@ -1,7 +1,6 @@
 -- Below 10 a figure, from 10 on a letter.
 use Rattle.laws.specs.Cases.{cases}
 use Rattle.bench_page.specs.Digits.{hex_digit}
-use Rattle.std.proofs.Common.{rules}
 use Rattle.bench_page.proofs.digits.hex.Goals as goal
 
 pub returns-then-n-lt10 : goal.returns-then-n-lt10
