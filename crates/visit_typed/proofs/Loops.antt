@@ -1,12 +1,12 @@
 -- Digits, decimals and two texts, one character on and at their end; and an amount with decimals or without.
-use Prim.Native.Nat.{ℕ, zero, suc, ◌+◌, ◌-◌, ◌%◌, ◌≤◌, ◌<◌}
-use native.Mathlib.Omega.{arith}
+use Rattle.std.proofs.Common.{ℕ, zero, suc, ◌+◌, ◌-◌, ◌%◌, ◌≤◌, ◌<◌}
+use Rattle.std.proofs.Common.{arith}
 use borrow.Author.Tests.{lt-ltb, le-ltb, eq-eqb, ne_eqb}
-use mathlib.Core.Bool.{Bool, true, false, ◌&&◌}
-use mathlib.Core.List.{List}
-use mathlib.Core.Path.{◌≡◌}
-use lib.Dec.{ltb}
-use lib.ListN.{length, get_or, drop, drop_of_length-le}
+use Rattle.std.proofs.Common.{Bool, true, false, ◌&&◌}
+use Rattle.std.proofs.Common.{List}
+use Rattle.std.proofs.Common.{◌≡◌}
+use Rattle.std.proofs.Common.{ltb}
+use Rattle.std.proofs.Common.{length, get_or, drop, drop_of_length-le}
 use Rattle.laws.specs.Rest.{rest}
 use Rattle.visit_typed.specs.declared.digits.Digits.{Digits}
 use Rattle.visit_typed.specs.Same.{same, same_on}

@@ -5,7 +5,7 @@ ghost use Rattle.visit_typed.specs.Typed as typed;
 use crate::{Typed, digits};
 
 // An amount: its whole part, so many decimals as a number, the place after it, and whether it is written as one at all.
-#[derive(Drop)]
+#[derive(Clone, Copy)]
 pub struct Amount {
     pub whole: u64,
     pub part: u64,

@@ -12,7 +12,7 @@ use amounts::Amount;
 use bench_bytes::{front, rest};
 
 // What a text says: a value's word, the number of a missing answer, or what is wrong with it.
-#[derive(Drop)]
+#[derive(Clone, Copy)]
 pub enum Typed {
     Value(u32),
     Missing(u32),
@@ -27,7 +27,7 @@ pub enum Typed {
 }
 
 // A number of one to ten digits, or none.
-#[derive(Drop)]
+#[derive(Clone, Copy)]
 pub enum Decimal {
     Number(u64),
     Nothing,
