@@ -10,7 +10,7 @@ use calibration::{Calibration, Words};
 use formula::{ChannelAnswer, TemperatureAnswer};
 
 // One reading: each channel has its value, or the number in its place.
-#[derive(Drop)]
+#[derive(Clone, Copy)]
 pub struct Reading {
     pub temperature: TemperatureAnswer,
     pub pressure: ChannelAnswer,
@@ -18,7 +18,7 @@ pub struct Reading {
 }
 
 // A reading, or the number that refuses it whole.
-#[derive(Drop)]
+#[derive(Clone, Copy)]
 pub enum Answer {
     Done(Reading),
     Refused(u8),

@@ -1,0 +1,8 @@
+-- `compensation::channels::temperature` meets its contract: the code decides. Assumes nothing.
+use Rattle.laws.specs.Cases.{cases}
+use Rattle.std.proofs.Common.{rules}
+use Rattle.formula.proofs.OneAnswer.{one-temperature}
+use Rattle.compensation.proofs.channels.temperature.Goals as goal
+
+pub returns-else-t-eq0 : goal.returns-else-t-eq0
+returns-else-t-eq0 c = rw (one-temperature _ _ c.temperature.ensures) (search cases)

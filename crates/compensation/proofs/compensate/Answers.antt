@@ -1,0 +1,9 @@
+-- `compensation::compensate` meets its contract: the blocks give their words, and these the reading. Assumes nothing.
+use Rattle.std.proofs.Common.{rules}
+use Rattle.calibration.proofs.OneAnswer.{one-calibration}
+use Rattle.compensation.specs.Compensation.{compensated}
+use Rattle.compensation.proofs.compensate.Goals as goal
+
+pub returns : goal.returns
+unfolding compensated
+returns c = rw (one-calibration _ _ c.calibrate.ensures) at c.compensate_with.ensures

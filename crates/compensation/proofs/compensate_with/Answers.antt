@@ -1,0 +1,12 @@
+-- `compensation::compensate_with` meets its contract: what refused the blocks refuses the reading, and then the data's length decides. Assumes nothing.
+use mathlib.Core.Path.{ap}
+use Rattle.std.proofs.Common.{rules}
+use Rattle.laws.specs.Cases.{cases}
+use Rattle.compensation.specs.Compensation.{compensated_words, reading_answer}
+use Rattle.compensation.proofs.OneAnswer.{one-reading}
+use Rattle.compensation.proofs.compensate_with.Goals as goal
+
+pub returns-then-bytes-eq-DATA : goal.returns-then-bytes-eq-DATA
+unfolding compensated_words
+returns-then-bytes-eq-DATA c =
+    ap reading_answer (rw (one-reading _ _ c.compensate_words.ensures, c.in-Known.is) (search cases))
