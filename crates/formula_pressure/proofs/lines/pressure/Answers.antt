@@ -1,5 +1,4 @@
 -- `pressure::lines::pressure` meets its contract: a line that is refused is the answer, and a line's value goes on to the next.
-use Prim.Native.Nat.{ℕ}
 use mathlib.Core.Path.{◌≡◌}
 use mir.Syntax.{w64}
 use mir.Val.{SFits}

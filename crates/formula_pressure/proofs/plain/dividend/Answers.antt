@@ -1,12 +1,11 @@
 -- `pressure::plain::dividend` meets its contract: each step stays within its width, by the bounds of its operands.
 use mathlib.Core.Path.{refl}
 use lib.IntN.{pos}
-use Rattle.std.proofs.Common.{rules}
 use Rattle.steps.specs.declared.Signed.TheVariants.{Bits64}
 use Rattle.steps.specs.Work.{given, num}
 use Rattle.formula.specs.Plain.{Gives}
 use Rattle.formula_pressure.specs.Plain.{dividend_line}
-use Rattle.formula.proofs.Bounds.{fit, within, value, onto, plainly, natural, literal, up, minus}
+use Rattle.formula.proofs.Bounds.{within, value, onto, plainly, natural, literal, up, minus}
 use Rattle.formula_pressure.proofs.plain.dividend.Goals as goal
 use Rattle.formula_pressure.proofs.plain.dividend.Goals.{Start}
 

@@ -8,7 +8,7 @@ use Rattle.steps.specs.declared.Signed.TheVariants.{Bits64}
 use Rattle.steps.specs.Work.{given, num}
 use Rattle.formula_pressure.specs.Pressure.{scale_lines}
 use Rattle.formula.specs.Plain.{Gives}
-use Rattle.formula.proofs.Bounds.{fit, within, value, onto, Read, widened, plainly, natural, word16, literal, up, down, times, plus}
+use Rattle.formula.proofs.Bounds.{fit, within, value, onto, Read, plainly, natural, word16, literal, up, down, times, plus}
 use Rattle.formula_pressure.proofs.plain.divisor.Goals as goal
 use Rattle.formula_pressure.proofs.plain.divisor.Goals.{Start}
 

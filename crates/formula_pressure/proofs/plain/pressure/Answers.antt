@@ -20,7 +20,7 @@ use Rattle.paper.specs.Numbers as no
 use Rattle.steps.specs.Step.{is_nonzero}
 use Rattle.formula.specs.Plain.{Gives, channel_plainly}
 use Rattle.formula_pressure.specs.Plain.{Dividing, dividend_line, division_line, divides}
-use Rattle.formula.proofs.Bounds.{local, fit, back, onto, passing, widened, word, literal, minus-within, far-is}
+use Rattle.formula.proofs.Bounds.{local, back, onto, passing, word, literal, minus-within, far-is}
 use Rattle.formula_pressure.proofs.Ranges.{dividing-is}
 use Rattle.formula_pressure.proofs.plain.pressure.Goals as goal
 use Rattle.formula_pressure.proofs.plain.pressure.Goals.{After-dividend-above, After-divisor-var1, After-in_range, After-is_dividing, After-offset-var2, After-quotient, After-refine, Start, Then-is_dividing}

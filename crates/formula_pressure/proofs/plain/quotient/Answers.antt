@@ -5,7 +5,7 @@ use Rattle.steps.specs.declared.Signed.TheVariants.{Bits64}
 use Rattle.steps.specs.Work.{given}
 use Rattle.formula.specs.Plain.{Gives}
 use Rattle.formula_pressure.specs.Plain.{division_line}
-use Rattle.formula.proofs.Bounds.{fit, within, plainly, bits-far, literal, times, over}
+use Rattle.formula.proofs.Bounds.{within, plainly, literal, times, over}
 use Rattle.formula_pressure.proofs.plain.quotient.Goals as goal
 use Rattle.formula_pressure.proofs.plain.quotient.Goals.{Start}
 

@@ -6,7 +6,7 @@ use Rattle.steps.specs.declared.Signed.TheVariants.{Bits64}
 use Rattle.steps.specs.Work.{given}
 use Rattle.formula_pressure.specs.Pressure.{curve_line, slope_line, last_line, refined_lines}
 use Rattle.formula.specs.Plain.{Gives}
-use Rattle.formula.proofs.Bounds.{fit, within, value, onto, Read, widened, plainly, word16, up, down, times, plus}
+use Rattle.formula.proofs.Bounds.{fit, within, value, onto, Read, plainly, word16, up, down, times, plus}
 use Rattle.formula_pressure.proofs.plain.refine.Goals as goal
 use Rattle.formula_pressure.proofs.plain.refine.Goals.{Start}
 
