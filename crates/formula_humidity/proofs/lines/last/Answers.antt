@@ -11,8 +11,7 @@ use Rattle.steps.specs.Work.{run}
 use Rattle.formula.specs.declared.ChannelAnswer.TheVariants.{Known}
 use Rattle.formula.specs.Answers.{answered}
 use Rattle.formula_humidity.specs.Humidity.{clamped, last_line}
-use Rattle.formula_humidity.proofs.lines.last.Statement.{statement}
-use Rattle.formula_humidity.proofs.lines.last.Tie as tie
+use Rattle.formula_humidity.proofs.lines.last.Goals as goal
 
 shifted : (v : ℤ) (n : ℕ) → pos n ≡ clamped v → Known (n / 4096) ≡ answered (run Bits32 (last_line v))
 unfolding run last_line on_value
@@ -23,8 +22,5 @@ shifted (negsuc m) n e =
     let h : n ≡ 0 = cc in
     ap (λ (k : ℕ). Known (k / 4096)) h
 
-returns : tie.Need-returns
-returns c = shifted c.before.args.v c.clamp.result (rw (to_z-of_z c.before.ranges.v) at c.clamp.ensures)
-
-pub last_spec : {M : Type 1} → statement M
-last_spec = tie.close (tie.spec (λ c κs. tt) returns)
+pub returns : goal.returns
+returns c = shifted c.args.v c.clamp.result (rw (to_z-of_z c.ranges.v) at c.clamp.ensures)

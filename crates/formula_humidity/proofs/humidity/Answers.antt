@@ -1,0 +1,11 @@
+-- `humidity::humidity` meets its contract: what the plain road gives is the answer, and else the checked road answers.
+use mathlib.Core.Path.{sym, ap}
+use mir.Facts.{to_z-of_z}
+use Rattle.std.proofs.Common.{rules}
+use Rattle.formula.specs.Answers.{channel_answer}
+use Rattle.formula.proofs.Taken.{taken-channel}
+use Rattle.formula_humidity.proofs.humidity.Goals as goal
+
+pub returns-then-plain : goal.returns-then-plain
+returns-then-plain c =
+    ap channel_answer (rw (to_z-of_z c.ranges.fine) at (sym (taken-channel _ _ c.humidity_plainly-plain.result c.humidity_plainly-plain.ensures c.if-plain.true)))
