@@ -1,6 +1,6 @@
 -- Why each channel's place holds what Missing.antt states: of the definitions first, and then of what the public call answers.
 use Prim.Native.Nat.{ℕ}
-use mathlib.Core.Path.{◌≡◌, refl, sym, subst}
+use mathlib.Core.Path.{◌≡◌, refl, subst}
 use mathlib.Core.Bool.{Bool, true, false, cond}
 use mathlib.Core.List.{List}
 use native.Mathlib.Omega.{arith}
@@ -15,7 +15,6 @@ use Rattle.calibration.specs.declared.Calibration.TheVariants as blocks
 use Rattle.calibration.specs.Calibration.{calibrated}
 use Rattle.data.specs.Counts.{counts_of}
 use Rattle.compensation.specs.declared.Reading.{Reading}
-use Rattle.compensation.specs.declared.Answer.{Answer}
 use Rattle.compensation.specs.declared.Answer.TheVariants.{Done, Refused}
 use Rattle.compensation.specs.Compensation.{reading, compensated_words, compensated_with, compensated}
 use Rattle.compensation.specs.Missing as missing

@@ -1,5 +1,4 @@
 -- `compensation::compensate` meets its contract: the blocks give their words, and these the reading. Assumes nothing.
-use Rattle.std.proofs.Common.{rules}
 use Rattle.calibration.proofs.OneAnswer.{one-calibration}
 use Rattle.compensation.specs.Compensation.{compensated}
 use Rattle.compensation.proofs.compensate.Goals as goal

@@ -1,6 +1,5 @@
 -- `compensation::compensate_with` meets its contract: what refused the blocks refuses the reading, and then the data's length decides. Assumes nothing.
 use mathlib.Core.Path.{ap}
-use Rattle.std.proofs.Common.{rules}
 use Rattle.laws.specs.Cases.{cases}
 use Rattle.compensation.specs.Compensation.{compensated_words, reading_answer}
 use Rattle.compensation.proofs.OneAnswer.{one-reading}

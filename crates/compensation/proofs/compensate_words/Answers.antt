@@ -2,7 +2,6 @@
 use mathlib.Core.Path.{ap}
 use Rattle.laws.specs.Cases.{cases}
 use Rattle.compensation.specs.Compensation.{compensated_words, reading_answer}
-use Rattle.std.proofs.Common.{rules}
 use Rattle.compensation.proofs.compensate_words.Goals as goal
 
 pub returns-then-are_codes : goal.returns-then-are_codes

@@ -1,6 +1,5 @@
 -- `compensation::channels::temperature` meets its contract: the code decides. Assumes nothing.
 use Rattle.laws.specs.Cases.{cases}
-use Rattle.std.proofs.Common.{rules}
 use Rattle.formula.proofs.OneAnswer.{one-temperature}
 use Rattle.compensation.proofs.channels.temperature.Goals as goal
 
