@@ -5,7 +5,7 @@ ghost use Rattle.measure_cycles.specs.Cycles as cycle;
 use machine::{Machine, Outcome};
 
 // The machine after a cycle, and all bytes given so far, taken together.
-#[derive(Drop)]
+#[derive(Clone, Copy)]
 pub struct Ridden {
     pub machine: Machine,
     pub seen: u8,
