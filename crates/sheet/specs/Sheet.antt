@@ -11,7 +11,6 @@ use Rattle.formula.specs.declared.TemperatureAnswer.{TemperatureAnswer}
 use Rattle.formula.specs.declared.TemperatureAnswer.TheVariants as heat
 use Rattle.formula_temperature.specs.Temperature as t
 use Rattle.formula_pressure.specs.Pressure as p
-use Rattle.formula_humidity.specs.Humidity as h
 use Rattle.compensation.specs.Compensation.{pressure_at, humidity_at, compensated, reading_answer}
 use Rattle.waiting.specs.Waiting as w
 use Rattle.waiting.specs.Polling as poll
