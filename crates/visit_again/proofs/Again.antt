@@ -1,10 +1,10 @@
 -- A number's digits are a decimal by themselves.
-use Prim.Native.Nat.{ℕ, ◌+◌, ◌≤◌, ◌<◌}
-use native.Mathlib.Omega.{arith}
+use Rattle.std.proofs.Common.{ℕ, ◌+◌, ◌≤◌, ◌<◌}
+use Rattle.std.proofs.Common.{arith}
 use borrow.Author.Tests.{le-ltb, le-leb, eq-eqb}
-use mathlib.Core.List.{List, [], ◌++◌, append-nil}
-use mathlib.Core.Path.{◌≡◌, refl, ap, sym, ◌∙◌}
-use lib.ListN.{length}
+use Rattle.std.proofs.Common.{List, [], ◌++◌, append-nil}
+use Rattle.std.proofs.Common.{◌≡◌, refl, ap, sym, ◌∙◌}
+use Rattle.std.proofs.Common.{length}
 use Rattle.bench_page.specs.Page.{letters}
 use Rattle.bench_page.specs.Digits.{decimal, spelled}
 use Rattle.visit_typed.specs.declared.Typed.TheVariants.{Value, Missing}
