@@ -11,7 +11,7 @@ use Rattle.visit.specs.declared.Stage.TheVariants as stage
 use Rattle.visit.specs.declared.Step.{Step}
 use Rattle.visit.specs.Tags as tag
 use Rattle.visit.specs.Words.{from_words}
-use Rattle.visit.specs.Writer.{Checked, fine, wrong, checked, bytes_of}
+use Rattle.visit.specs.Writer.{Checked, fine, checked, bytes_of}
 use Rattle.visit.specs.Lent.{write_by, write_steps, write_into}
 use Rattle.visit_write.specs.Walk.{size_of}
 use Rattle.visit_write.proofs.Frames.{bytes-length}

@@ -13,7 +13,7 @@ mod in_order;
 mod sizes;
 
 // The bytes written, the number that says why there are none, or that number with the place of a step.
-#[derive(Drop)]
+#[derive(Clone, Copy)]
 pub enum Written {
     Bytes(usize),
     Refused(u8),
