@@ -12,7 +12,7 @@ mod slots;
 mod whole;
 
 // How many steps the record has; or the number that says why there are none, for 18 to 22 with an offset.
-#[derive(Drop)]
+#[derive(Clone, Copy)]
 pub enum Read {
     Steps(usize),
     Refused(u8),
