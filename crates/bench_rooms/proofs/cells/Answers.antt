@@ -1,0 +1,10 @@
+-- The three in their order.
+use Rattle.bench_rooms.proofs.Laws.{three}
+use Rattle.bench_rooms.specs.Map.{cells}
+use Rattle.bench_rooms.proofs.cells.Goals as goal
+
+pub returns : goal.returns
+unfolding cells
+returns c =
+    three _ _ _ _ c.write_cell-a.ensures c.write_byte-b.ensures c.write_cell-c.ensures
+    c.write_byte-d.ensures c.write_cell.ensures

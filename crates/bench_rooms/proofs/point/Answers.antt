@@ -1,0 +1,12 @@
+-- The three doubles in their order, and then the flags.
+use Rattle.bench_page.proofs.Laws.{joined}
+use Rattle.bench_rooms.proofs.Laws.{three, flagged}
+use Rattle.bench_rooms.specs.Map.{point}
+use Rattle.bench_rooms.proofs.point.Goals as goal
+
+pub returns : goal.returns
+unfolding point
+returns c =
+    three _ _ _ _ c.write_double-a.ensures c.write_byte-b.ensures c.write_double-c.ensures
+    c.write_byte-d.ensures
+    (joined _ _ _ c.write_double-e.ensures (rw (flagged, flagged, flagged) at c.fill.ensures))

@@ -1,0 +1,10 @@
+-- The three in their order.
+use Rattle.bench_rooms.proofs.Laws.{three}
+use Rattle.bench_rooms.specs.Map.{verdicts}
+use Rattle.bench_rooms.proofs.verdicts.Goals as goal
+
+pub returns : goal.returns
+unfolding verdicts
+returns c =
+    three _ _ _ _ c.write_verdict-a.ensures c.write_byte-b.ensures c.write_verdict-c.ensures
+    c.write_byte-d.ensures c.write_verdict.ensures
