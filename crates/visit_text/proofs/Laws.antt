@@ -1,7 +1,7 @@
 -- A line's end, and the lines of an answer and of a slot, one text after another.
-use Prim.Native.Nat.{ℕ}
-use mathlib.Core.List.{List, ◌++◌}
-use mathlib.Core.Path.{◌≡◌}
+use Rattle.std.proofs.Common.{ℕ}
+use Rattle.std.proofs.Common.{List, ◌++◌}
+use Rattle.std.proofs.Common.{◌≡◌}
 use Rattle.bench_page.specs.Page.{Page, written_byte, written}
 use Rattle.bench_page.proofs.Laws.{joined}
 use Rattle.visit_text.specs.Text.{newline}

@@ -1,0 +1,15 @@
+-- The name, and then the value or why it is missing.
+use Rattle.bench_page.proofs.Laws.{joined}
+use Rattle.visit_text.proofs.Laws.{valued}
+use Rattle.visit_text.specs.Text.{temperature}
+use Rattle.visit_text.proofs.write_temperature.Goals as goal
+
+pub returns-in-Value : goal.returns-in-Value
+unfolding temperature
+returns-in-Value c =
+    rw c.in-Value.is (valued _ _ _ c.write_name-next.ensures c.write_temperature-end.ensures c.write_byte.ensures)
+
+pub returns-in-Missing : goal.returns-in-Missing
+unfolding temperature
+returns-in-Missing c =
+    rw c.in-Missing.is (joined _ _ _ c.write_name-next.ensures c.write_missing.ensures)
