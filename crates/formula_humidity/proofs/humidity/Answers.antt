@@ -1,7 +1,6 @@
 -- `humidity::humidity` meets its contract: what the plain road gives is the answer, and else the checked road answers.
 use mathlib.Core.Path.{sym, ap}
 use mir.Facts.{to_z-of_z}
-use Rattle.std.proofs.Common.{rules}
 use Rattle.formula.specs.Answers.{channel_answer}
 use Rattle.formula.proofs.Taken.{taken-channel}
 use Rattle.formula_humidity.proofs.humidity.Goals as goal

@@ -1,7 +1,6 @@
 -- `humidity::humidity_plainly` meets its contract: the guard decides, and then the plain road does.
 use mathlib.Core.Path.{sym, ◌∙◌}
 use mir.Facts.{to_z-of_z}
-use Rattle.std.proofs.Common.{rules}
 use Rattle.formula.specs.Plain.{channel_plainly}
 use Rattle.formula_humidity.proofs.Ranges.{plain-is}
 use Rattle.formula_humidity.proofs.humidity_plainly.Goals as goal

@@ -1,6 +1,5 @@
 -- The counts are read where the codes are enabled.
 use mathlib.Core.Path.{sym, ◌∙◌}
-use Rattle.std.proofs.Common.{rules}
 use Rattle.plain_reading.specs.Plain.{read_plainly}
 use Rattle.plain_reading.proofs.read.Goals as goal
 

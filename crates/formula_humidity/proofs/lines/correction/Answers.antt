@@ -1,6 +1,5 @@
 -- `humidity::lines::correction` meets its contract: its calls are the line's steps.
 use mir.Facts.{to_z-of_z}
-use Rattle.std.proofs.Common.{rules}
 use Rattle.steps.specs.Step.{subtracted, multiplied, shifted_right}
 use Rattle.steps.specs.Work.{run}
 use Rattle.formula_humidity.specs.Humidity.{correction_line}

@@ -9,7 +9,7 @@ use Rattle.steps.specs.declared.Signed.TheVariants.{Bits32}
 use Rattle.steps.specs.Work.{given, num}
 use Rattle.formula_humidity.specs.Humidity.{bend_factor}
 use Rattle.formula.specs.Plain.{Gives}
-use Rattle.formula.proofs.Bounds.{fit, within, Read, widened, plainly, natural, word, literal, down, times, plus}
+use Rattle.formula.proofs.Bounds.{fit, within, Read, plainly, natural, word, literal, down, times, plus}
 use Rattle.formula_humidity.proofs.plain.bend.Goals as goal
 use Rattle.formula_humidity.proofs.plain.bend.Goals.{Start}
 

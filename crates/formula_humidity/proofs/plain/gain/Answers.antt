@@ -7,7 +7,7 @@ use Rattle.std.proofs.Common.{rules}
 use Rattle.steps.specs.declared.Signed.TheVariants.{Bits32}
 use Rattle.formula_humidity.specs.Humidity.{bend_factor, gain_factor}
 use Rattle.formula.specs.Plain.{Gives}
-use Rattle.formula.proofs.Bounds.{fit, within, Read, widened, word, literal, down, times, plus}
+use Rattle.formula.proofs.Bounds.{fit, within, Read, word, literal, down, times, plus}
 use Rattle.formula_humidity.proofs.plain.gain.Goals as goal
 use Rattle.formula_humidity.proofs.plain.gain.Goals.{After-bend, Start}
 

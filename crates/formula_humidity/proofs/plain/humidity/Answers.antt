@@ -8,14 +8,13 @@ use lib.IntN.{pos, nat_abs, ◌-ℤ◌, ◌*ℤ◌}
 use mir.Syntax.{w32}
 use mir.Val.{to_z, of_z}
 use mir.Facts.{to_z-of_z}
-use Rattle.std.proofs.Common.{rules}
 use Rattle.steps.specs.declared.Signed.TheVariants.{Bits32}
 use Rattle.steps.specs.Step.{on_value}
 use Rattle.steps.specs.Work.{run}
 use Rattle.formula_humidity.specs.Humidity.{difference_line, level_factor, gain_factor, product_line, humidity_lines, humidity_formula, humidity_of}
 use Rattle.formula.specs.Plain.{Gives, channel_plainly}
 use Rattle.formula_humidity.specs.Plain.{Small, multiplies}
-use Rattle.formula.proofs.Bounds.{local, fit, back, onto, wider, widened, word, literal, times, times-within, minus-within}
+use Rattle.formula.proofs.Bounds.{local, fit, back, onto, wider, word, literal, times, times-within, minus-within}
 use Rattle.formula_humidity.proofs.Ranges.{small_is}
 use Rattle.formula_humidity.proofs.plain.humidity.Goals as goal
 use Rattle.formula_humidity.proofs.plain.humidity.Goals.{After-correct, After-gain, After-is_small, After-last, After-level, Start, Then-is_small}

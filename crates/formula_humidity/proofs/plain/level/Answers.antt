@@ -8,7 +8,7 @@ use Rattle.steps.specs.declared.Signed.TheVariants.{Bits32}
 use Rattle.steps.specs.Work.{given, num}
 use Rattle.formula_humidity.specs.Humidity.{level_factor}
 use Rattle.formula.specs.Plain.{Gives}
-use Rattle.formula.proofs.Bounds.{fit, within, Read, widened, plainly, natural, word, literal, up, down, times, plus, minus}
+use Rattle.formula.proofs.Bounds.{fit, within, Read, plainly, natural, word, literal, up, down, times, plus, minus}
 use Rattle.formula_humidity.proofs.plain.level.Goals as goal
 use Rattle.formula_humidity.proofs.plain.level.Goals.{Start}
 
