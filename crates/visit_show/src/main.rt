@@ -4,7 +4,8 @@
 mod refusals; // what is said of a record that is refused
 
 use bench_bytes::front;
-use libc::{STDERR_FILENO, STDOUT_FILENO};
+use std::io;
+use std::io::Print;
 use visit_input::Input;
 use visit_read::Read;
 
@@ -24,24 +25,24 @@ const FULL: usize = 60000;
 
 // Writes the page out, and begins it anew.
 // Once a write has failed nothing more is written, so that no line is missing between two others.
-fn write_out(mut shown: Shown, page: &[u8]) -> Shown {
+fn write_out(output: io::Stdout, mut shown: Shown, page: &[u8]) -> Shown {
     if shown.written {
-        shown.written = io::write_all(STDOUT_FILENO, front(page, shown.at));
+        shown.written = output.write_all(front(page, shown.at)).is_ok();
     }
     shown.at = 0;
     shown
 }
 
 // Writes the page out where it is nearly full.
-fn make_room(shown: Shown, page: &[u8]) -> Shown {
+fn make_room(output: io::Stdout, shown: Shown, page: &[u8]) -> Shown {
     if shown.at < FULL {
         return shown;
     }
-    write_out(shown, page)
+    write_out(output, shown, page)
 }
 
 // Writes the lines of so many steps.
-fn write_steps(steps: &[u32], count: usize, page: &mut [u8]) -> Shown {
+fn write_steps(output: io::Stdout, steps: &[u32], count: usize, page: &mut [u8]) -> Shown {
     let mut place = visit_place::start();
     let mut shown = Shown {
         at: 0,
@@ -49,57 +50,54 @@ fn write_steps(steps: &[u32], count: usize, page: &mut [u8]) -> Shown {
     };
     let mut k = 0;
     while k < count {
-        shown = make_room(shown, page);
+        shown = make_room(output, shown, page);
         let step = visit_step::step_at(steps, k);
         place = visit_place::after(place, step);
         shown.at = visit_text::write_step(place, step, page, shown.at);
         k += 1;
     }
-    write_out(shown, page)
+    write_out(output, shown, page)
 }
 
 // Shows the steps of a record.
 // If a write failed, standard error says so.
-fn show_steps(steps: &[u32], count: usize, page: &mut [u8]) {
-    let shown = write_steps(steps, count, page);
+fn show_steps(rt: &HostRuntime, steps: &[u32], count: usize, page: &mut [u8]) -> io::Result<()> {
+    let shown = write_steps(rt.stdout(), steps, count, page);
     if !shown.written {
-        io::write_all(
-            STDERR_FILENO,
-            b"visit show: the text could not be written\n",
-        );
+        return rt
+            .stderr()
+            .write_all(b"visit show: the text could not be written\n");
     }
+    Ok(())
 }
 
 // Shows a record, or says on standard error why it is refused.
-fn show_record(record: &[u8], steps: &mut [u32], page: &mut [u8]) {
+fn show_record(
+    rt: &HostRuntime,
+    record: &[u8],
+    steps: &mut [u32],
+    page: &mut [u8],
+) -> io::Result<()> {
     match visit_read::read_record(record, steps) {
-        Read::Steps(count) => {
-            show_steps(steps, count, page);
-        }
-        Read::Refused(number) => {
-            refusals::say(number, page);
-        }
-        Read::RefusedAt { number, offset } => {
-            refusals::say_at(number, offset, page);
-        }
+        Read::Steps(count) => show_steps(rt, steps, count, page),
+        Read::Refused(number) => refusals::say(rt.stderr(), number, page),
+        Read::RefusedAt { number, offset } => refusals::say_at(rt.stderr(), number, offset, page),
     }
 }
 
 // Shows what standard input has: one byte more than a record's most is read, so that more are seen to be too many.
-fn show(record: &mut [u8], steps: &mut [u32], page: &mut [u8]) {
-    match visit_input::read_all(record) {
-        Input::Bytes(count) => {
-            show_record(front(record, count), steps, page);
-        }
-        Input::Unread => {
-            io::write_all(STDERR_FILENO, b"visit show: the input could not be read\n");
-        }
+fn show(rt: &HostRuntime, record: &mut [u8], steps: &mut [u32], page: &mut [u8]) -> io::Result<()> {
+    match visit_input::read_all(&mut rt.stdin(), record) {
+        Input::Bytes(count) => show_record(rt, front(record, count), steps, page),
+        Input::Unread => rt
+            .stderr()
+            .write_all(b"visit show: the input could not be read\n"),
     }
 }
 
-fn main() {
-    let mut record = io::large_buffer();
+fn main(rt: HostRuntime) -> io::Result<()> {
+    let mut record = [0u8; 65536];
     let mut steps = [0u32; WORDS];
-    let mut page = io::large_buffer();
-    show(&mut record, &mut steps, &mut page);
+    let mut page = [0u8; 65536];
+    show(&rt, &mut record, &mut steps, &mut page)
 }

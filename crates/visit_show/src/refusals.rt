@@ -1,7 +1,8 @@
 // What is said on standard error of a record that is refused.
 use bench_bytes::front;
 use bench_page::write_text;
-use libc::STDERR_FILENO;
+use std::io;
+use std::io::Print;
 
 // Writes why a field is refused.
 fn write_reason(number: u8, page: &mut [u8], at: usize) -> usize {
@@ -20,20 +21,25 @@ fn write_reason(number: u8, page: &mut [u8], at: usize) -> usize {
 }
 
 // Says at which byte a record is wrong, and why.
-pub(crate) fn say_at(number: u8, offset: usize, page: &mut [u8]) {
+pub(crate) fn say_at(
+    errors: io::Stderr,
+    number: u8,
+    offset: usize,
+    page: &mut [u8],
+) -> io::Result<()> {
     let a = bench_row::fill(b"visit show: byte #: ", &[offset as u64], page, 0);
     let b = write_reason(number, page, a);
     let c = bench_row::fill(b" (#)\n", &[number as u64], page, b);
-    io::write_all(STDERR_FILENO, front(page, c));
+    errors.write_all(front(page, c))
 }
 
 // Says that a record is refused whole: it has too many bytes.
-pub(crate) fn say(number: u8, page: &mut [u8]) {
+pub(crate) fn say(errors: io::Stderr, number: u8, page: &mut [u8]) -> io::Result<()> {
     let at = bench_row::fill(
         b"visit show: more than 65,535 bytes (#)\n",
         &[number as u64],
         page,
         0,
     );
-    io::write_all(STDERR_FILENO, front(page, at));
+    errors.write_all(front(page, at))
 }
