@@ -10,7 +10,7 @@ mod pairs;
 mod words;
 
 // Why a line is not answered.
-#[derive(Drop)]
+#[derive(Clone, Copy)]
 pub enum Reason {
     UnknownWord,
     WrongNumberOfWords,
