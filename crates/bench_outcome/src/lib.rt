@@ -10,7 +10,7 @@ use bench_bytes::front;
 use machine::Tally;
 
 // What an outcome says beside the machine.
-#[derive(Drop)]
+#[derive(Clone, Copy)]
 pub struct Said {
     pub answer: u8,
     pub value: u8,
@@ -24,7 +24,7 @@ pub struct Said {
 }
 
 // What an event's answer shows: the number alone, a byte beside it, or what a close in a buffer of so many bytes shows.
-#[derive(Drop)]
+#[derive(Clone, Copy)]
 pub enum Shape {
     Number,
     Byte,
