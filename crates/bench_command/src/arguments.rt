@@ -6,14 +6,14 @@ use crate::{rows, text};
 use bench_numbers::{Argument, Reason};
 
 // Whether all arguments so far were read, or why the first that was not is refused.
-#[derive(Drop)]
+#[derive(Clone, Copy)]
 pub enum Outcome {
     Done,
     Refused(Reason),
 }
 
 // How far a line is read: the numbers of its arguments, zeros after them, and how many they are; the place in the line, and that of the next byte.
-#[derive(Drop)]
+#[derive(Clone, Copy)]
 pub struct Progress {
     pub outcome: Outcome,
     pub numbers: [usize; 16],

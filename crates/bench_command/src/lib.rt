@@ -16,7 +16,7 @@ mod table;
 mod text;
 
 // The words of one reading or two in a line, zeros for what it lacks.
-#[derive(Drop)]
+#[derive(Clone, Copy)]
 pub struct Sent {
     // Of the first: the lengths of the two blocks and of the data, and the three codes.
     pub one: usize,
@@ -39,7 +39,7 @@ pub struct Sent {
 }
 
 // What is shown of a reading: its channels, its map point, its cells, or how it compares with a second.
-#[derive(Drop)]
+#[derive(Clone, Copy)]
 pub enum Shown {
     Comp,
     Point,
@@ -48,7 +48,7 @@ pub enum Shown {
 }
 
 // What the machine has no part in, with its values. Bytes are laid one after another where they are lent, and the question has their lengths.
-#[derive(Drop)]
+#[derive(Clone, Copy)]
 pub enum Question {
     // The lengths of the two blocks.
     Cal(usize, usize),
@@ -71,7 +71,7 @@ pub enum Question {
 }
 
 // What a line asks: nothing where it is empty, nothing that can be answered, a question, a visit written, or something of the machine.
-#[derive(Drop)]
+#[derive(Clone, Copy)]
 pub enum Asked {
     Nothing,
     Refused(Reason),
