@@ -7,7 +7,6 @@ use lib.ListN.{take}
 use borrow.Author.Tests.{not-false, eqb-true}
 use Rattle.laws.specs.Choices.{pick}
 use Rattle.kinds.specs.Chips.{facts}
-use Rattle.machine.specs.declared.Machine.{Machine}
 use Rattle.machine.specs.declared.Outcome.{Outcome}
 use Rattle.machine.specs.State.{is_open}
 use Rattle.machine.specs.Events.{is_whole, written_to}

@@ -15,7 +15,7 @@ use kinds::Kind;
 use machine::{Event, Machine, Outcome, Tally};
 
 // The machine after a command, and the page's next place.
-#[derive(Drop)]
+#[derive(Clone, Copy)]
 pub struct Answered {
     pub machine: Machine,
     pub at: usize,
