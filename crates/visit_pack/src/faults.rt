@@ -2,7 +2,8 @@
 use crate::lines;
 use bench_bytes::{front, rest};
 use bench_page::{write_byte, write_text};
-use libc::STDERR_FILENO;
+use std::io;
+use std::io::Print;
 
 // The line of a text with so many lines before it, without its end.
 fn line_of(text: &[u8], before: u8) -> &[u8] {
@@ -43,20 +44,20 @@ fn write_reason(fault: u8, page: &mut [u8], at: usize) -> usize {
 }
 
 // Says which line is wrong, and why.
-pub(crate) fn say(line: usize, fault: u8, page: &mut [u8]) {
+pub(crate) fn say(errors: io::Stderr, line: usize, fault: u8, page: &mut [u8]) -> io::Result<()> {
     let a = bench_row::fill(b"visit pack: line #: ", &[line as u64], page, 0);
     let b = write_reason(fault, page, a);
     let c = write_byte(b'\n', page, b);
-    io::write_all(STDERR_FILENO, front(page, c));
+    errors.write_all(front(page, c))
 }
 
 // Says that the record would be too long.
-pub(crate) fn say_size(number: u8, page: &mut [u8]) {
+pub(crate) fn say_size(errors: io::Stderr, number: u8, page: &mut [u8]) -> io::Result<()> {
     let at = bench_row::fill(
         b"visit pack: the record would have more than 65,535 bytes (#)\n",
         &[number as u64],
         page,
         0,
     );
-    io::write_all(STDERR_FILENO, front(page, at));
+    errors.write_all(front(page, at))
 }

@@ -7,13 +7,14 @@ mod groups; // lines with a group's name
 mod lines; // a line's parts
 
 use bench_bytes::{front, rest};
-use libc::{STDERR_FILENO, STDOUT_FILENO};
+use std::io;
+use std::io::Print;
 use visit_input::Input;
 use visit_place::Place;
 use visit_write::Written;
 
 // What is kept from line to line.
-#[derive(Drop)]
+#[derive(Clone, Copy)]
 pub struct Pack {
     // Lines passed, and steps laid down.
     pub lines: usize,
@@ -95,69 +96,65 @@ fn take_lines(text: &[u8], steps: &mut [u32]) -> Pack {
 
 // Writes the record of so many words of steps.
 // If it can't be written, standard error says so.
-fn write_record(steps: &[u32], out: &mut [u8]) {
+fn write_record(rt: &HostRuntime, steps: &[u32], out: &mut [u8]) -> io::Result<()> {
     match visit_write::write(steps, out) {
         Written::Bytes(count) => {
-            if !io::write_all(STDOUT_FILENO, front(out, count)) {
-                io::write_all(
-                    STDERR_FILENO,
-                    b"visit pack: the record could not be written\n",
-                );
+            if rt.stdout().write_all(front(out, count)).is_err() {
+                return rt
+                    .stderr()
+                    .write_all(b"visit pack: the record could not be written\n");
             }
+            Ok(())
         }
-        Written::Refused(number) => {
-            faults::say_size(number, out);
-        }
-        Written::RefusedAt { number, place: _ } => {
-            faults::say_size(number, out);
-        }
+        Written::Refused(number) => faults::say_size(rt.stderr(), number, out),
+        Written::RefusedAt { number, place: _ } => faults::say_size(rt.stderr(), number, out),
     }
 }
 
 // Writes the record of the steps, or says that it would be too long.
-fn write_steps(count: usize, steps: &[u32], out: &mut [u8]) {
+fn write_steps(rt: &HostRuntime, count: usize, steps: &[u32], out: &mut [u8]) -> io::Result<()> {
     if count > STEPS {
-        faults::say_size(paper::WRONG_LENGTH, out);
-        return;
+        return faults::say_size(rt.stderr(), paper::WRONG_LENGTH, out);
     }
     let words = count * 8;
     if words <= steps.len() {
-        write_record(&steps[..words], out);
+        return write_record(rt, &steps[..words], out);
     }
+    Ok(())
 }
 
 // Packs a text, or says on standard error which line is wrong and why.
-fn pack_text(text: &[u8], steps: &mut [u32], out: &mut [u8]) {
+fn pack_text(rt: &HostRuntime, text: &[u8], steps: &mut [u32], out: &mut [u8]) -> io::Result<()> {
     if text.len() >= TEXT {
-        io::write_all(
-            STDERR_FILENO,
-            b"visit pack: the text has more than 1,048,576 bytes\n",
-        );
-        return;
+        return rt
+            .stderr()
+            .write_all(b"visit pack: the text has more than 1,048,576 bytes\n");
     }
     let pack = take_lines(text, steps);
     if pack.fault > 0 {
-        faults::say(pack.lines, pack.fault, out);
-        return;
+        return faults::say(rt.stderr(), pack.lines, pack.fault, out);
     }
-    write_steps(pack.steps, steps, out);
+    write_steps(rt, pack.steps, steps, out)
 }
 
 // Packs what standard input has.
-fn pack_input(text: &mut [u8], steps: &mut [u32], out: &mut [u8]) {
-    match visit_input::read_all(text) {
-        Input::Bytes(count) => {
-            pack_text(front(text, count), steps, out);
-        }
-        Input::Unread => {
-            io::write_all(STDERR_FILENO, b"visit pack: the input could not be read\n");
-        }
+fn pack_input(
+    rt: &HostRuntime,
+    text: &mut [u8],
+    steps: &mut [u32],
+    out: &mut [u8],
+) -> io::Result<()> {
+    match visit_input::read_all(&mut rt.stdin(), text) {
+        Input::Bytes(count) => pack_text(rt, front(text, count), steps, out),
+        Input::Unread => rt
+            .stderr()
+            .write_all(b"visit pack: the input could not be read\n"),
     }
 }
 
-fn main() {
+fn main(rt: HostRuntime) -> io::Result<()> {
     let mut text = [0u8; TEXT];
     let mut steps = [0u32; WORDS];
-    let mut out = io::large_buffer();
-    pack_input(&mut text, &mut steps, &mut out);
+    let mut out = [0u8; 65536];
+    pack_input(&rt, &mut text, &mut steps, &mut out)
 }
