@@ -1,45 +1,65 @@
 // What is said on standard error, and on descriptor 4 how far the work is.
 use crate::rows;
 use bench_bytes::front;
-use libc::{STDERR_FILENO, STDOUT_FILENO};
+use std::fs;
+use std::fs::{File, OpenOptions};
+use std::io::{IsTerminal, Write};
+use std::os::unix::fs::FileTypeExt;
 
 // The script makes this descriptor the user's own standard error.
-const WATCHER: i32 = 4;
+const WATCHER: &str = "/dev/fd/4";
 
 // Says a line on standard error.
-pub(crate) fn say(line: &[u8]) {
-    io::write_all(STDERR_FILENO, line);
+pub(crate) fn say(rt: &HostRuntime, line: &[u8]) {
+    let _ = rt.stderr().write_all(line);
 }
 
 // Says a line that is filled with numbers.
-pub(crate) fn say_numbers(form: &[u8], numbers: &[u64]) {
-    let mut line = io::buffer();
+pub(crate) fn say_numbers(rt: &HostRuntime, form: &[u8], numbers: &[u64]) {
+    let mut line = [0u8; 4096];
     let at = bench_row::fill(form, numbers, &mut line, 0);
-    io::write_all(STDERR_FILENO, front(&line, at));
+    say(rt, front(&line, at));
 }
 
 // Says what stopped the work, and gives whether nothing did.
-pub(crate) fn say_fault(fault: u8) -> bool {
+pub(crate) fn say_fault(rt: &HostRuntime, fault: u8) -> bool {
     if fault == rows::UNREAD {
-        say(b"day: the file could not be read\n");
+        say(rt, b"day: the file could not be read\n");
     }
     if fault == rows::UNWRITTEN {
-        say(b"day: the text could not be written\n");
+        say(rt, b"day: the text could not be written\n");
     }
     fault == 0
 }
 
-// Whether someone at a terminal watches, to whom the lines themselves do not go.
-pub(crate) fn is_watched() -> bool {
-    if libc::isatty(WATCHER) == 1 {
-        return libc::isatty(STDOUT_FILENO) != 1;
+// The terminal of someone who watches, to whom the lines themselves do not go; or none.
+pub(crate) fn watcher(rt: &HostRuntime) -> Option<File> {
+    if !is_device(rt) {
+        return None;
     }
-    false
+    match OpenOptions::new().write(true).open(rt, WATCHER) {
+        Ok(file) => {
+            if file.is_terminal() & !rt.stdout().is_terminal() {
+                Some(file)
+            } else {
+                None
+            }
+        }
+        Err(_) => None,
+    }
+}
+
+// Whether the descriptor is a device, as a terminal is. Anything else is not opened.
+fn is_device(rt: &HostRuntime) -> bool {
+    match fs::metadata(rt, WATCHER) {
+        Ok(known) => known.file_type().is_char_device(),
+        Err(_) => false,
+    }
 }
 
 // Says to whoever watches how far the work is.
-pub(crate) fn say_progress(watched: bool, done: usize, count: usize) {
-    if watched {
+pub(crate) fn say_progress(watcher: &mut Option<File>, done: usize, count: usize) {
+    if let Some(terminal) = watcher {
         let mut line = [0u8; 128];
         let at = bench_row::fill(
             b"\rday: # of # readings",
@@ -47,13 +67,13 @@ pub(crate) fn say_progress(watched: bool, done: usize, count: usize) {
             &mut line,
             0,
         );
-        io::write_all(WATCHER, front(&line, at));
+        let _ = terminal.write_all(front(&line, at));
     }
 }
 
 // Takes the line away that says so: spaces stand in the place of its longest.
-pub(crate) fn clear(watched: bool, count: usize) {
-    if watched {
+pub(crate) fn clear(watcher: &mut Option<File>, count: usize) {
+    if let Some(terminal) = watcher {
         let mut line = [0u8; 128];
         let size = bench_row::fill(
             b"day: # of # readings",
@@ -71,6 +91,6 @@ pub(crate) fn clear(watched: bool, count: usize) {
             a,
         );
         let c = bench_page::write_byte(b'\r', &mut line, b);
-        io::write_all(WATCHER, front(&line, c));
+        let _ = terminal.write_all(front(&line, c));
     }
 }
