@@ -2,6 +2,6 @@
 
 #![tactic(auto)]
 
-fn main() {
-    day_file::show(true);
+fn main(rt: HostRuntime) {
+    day_file::show(&rt, true);
 }
