@@ -8,10 +8,11 @@ mod lines; // what a line is answered
 use bench_bytes::{front, rest};
 use bench_machine::Answered;
 use kinds::Kind;
-use libc::{STDERR_FILENO, STDIN_FILENO, STDOUT_FILENO};
+use std::io;
+use std::io::{Print, Read};
 
 // What is kept from line to line beside the machine.
-#[derive(Drop)]
+#[derive(Clone, Copy)]
 struct Bench {
     // How many bytes the block has, and from where on they are not yet taken.
     size: usize,
@@ -68,9 +69,9 @@ fn find(mut kept: Bench, block: &[u8], line: &mut [u8]) -> Bench {
 
 // Writes the page out, and begins it anew.
 // Once a write has failed nothing more is written, so that no answer is missing between two others.
-fn write_out(mut kept: Bench, out: &[u8]) -> Bench {
+fn write_out(output: io::Stdout, mut kept: Bench, out: &[u8]) -> Bench {
     if kept.written {
-        kept.written = io::write_all(STDOUT_FILENO, front(out, kept.at));
+        kept.written = output.write_all(front(out, kept.at)).is_ok();
     }
     kept.at = 0;
     kept
@@ -78,12 +79,15 @@ fn write_out(mut kept: Bench, out: &[u8]) -> Bench {
 
 // Reads a block and gives how many bytes it has: none at the end of the input.
 // If it can't be read, standard error says so, and the input ends there.
-fn read_block(block: &mut [u8]) -> usize {
-    let got = libc::read(STDIN_FILENO, block);
-    if got < 0 {
-        io::write_all(STDERR_FILENO, b"bench: the input could not be read\n");
+fn read_block(rt: &HostRuntime, block: &mut [u8]) -> io::Result<usize> {
+    match rt.stdin().read(block) {
+        Ok(n) => Ok(n),
+        Err(_) => {
+            rt.stderr()
+                .write_all(b"bench: the input could not be read\n")?;
+            Ok(0)
+        }
     }
-    io::count(got, block)
 }
 
 // The block has so many bytes, of which none is taken.
@@ -98,19 +102,25 @@ fn begin_block(mut kept: Bench, size: usize) -> Bench {
 
 // Goes on to the next line, with room for its answer on the page, or to the next block.
 // What the lines of a block are answered is written out before the next is read; once a write has failed, none is.
-fn go_on(kept: Bench, block: &mut [u8], line: &mut [u8], out: &[u8]) -> Bench {
+fn go_on(
+    rt: &HostRuntime,
+    kept: Bench,
+    block: &mut [u8],
+    line: &mut [u8],
+    out: &[u8],
+) -> io::Result<Bench> {
     let found = find(kept, front(block, kept.size), line);
     if found.whole & (found.at < FULL) {
-        return found;
+        return Ok(found);
     }
-    let next = write_out(found, out);
+    let next = write_out(rt.stdout(), found, out);
     if next.whole {
-        return next;
+        return Ok(next);
     }
     if next.written {
-        return begin_block(next, read_block(block));
+        return Ok(begin_block(next, read_block(rt, block)?));
     }
-    begin_block(next, 0)
+    Ok(begin_block(next, 0))
 }
 
 // The line: where it stands in the block, if nothing is held of it.
@@ -127,11 +137,14 @@ fn text<'a>(kept: Bench, block: &'a [u8], line: &'a [u8]) -> &'a [u8] {
 
 // Writes the last answers out.
 // If a write failed, now or before, standard error says so.
-fn finish(kept: Bench, out: &[u8]) {
-    let done = write_out(kept, out);
+fn finish(rt: &HostRuntime, kept: Bench, out: &[u8]) -> io::Result<()> {
+    let done = write_out(rt.stdout(), kept, out);
     if !done.written {
-        io::write_all(STDERR_FILENO, b"bench: the answers could not be written\n");
+        return rt
+            .stderr()
+            .write_all(b"bench: the answers could not be written\n");
     }
+    Ok(())
 }
 
 // The fresh machine of a BME280 and an empty page.
@@ -167,22 +180,22 @@ fn left(turns: u64, last: bool) -> u64
 
 // Answers the lines of the input to its end, or until a write fails.
 // A proved loop has to end, so the turns are counted down from a number that no run uses up.
-fn serve(block: &mut [u8], line: &mut [u8], out: &mut [u8]) {
+fn serve(rt: &HostRuntime, block: &mut [u8], line: &mut [u8], out: &mut [u8]) -> io::Result<()> {
     let mut answered = start();
     let mut kept = nothing();
     let mut turns = u64::MAX;
     while turns > 0 {
-        kept = go_on(kept, block, line, out);
+        kept = go_on(rt, kept, block, line, out)?;
         answered = lines::answer(text(kept, block, line), answered.machine, out, kept.at);
         kept.at = answered.at;
         turns = left(turns, kept.last);
     }
-    finish(kept, out);
+    finish(rt, kept, out)
 }
 
-fn main() {
-    let mut block = io::large_buffer();
+fn main(rt: HostRuntime) -> io::Result<()> {
+    let mut block = [0u8; 65536];
     let mut line = [0u8; HELD];
-    let mut out = io::large_buffer();
-    serve(&mut block, &mut line, &mut out);
+    let mut out = [0u8; 65536];
+    serve(&rt, &mut block, &mut line, &mut out)
 }
