@@ -8,5 +8,5 @@ pub returns : goal.returns
 unfolding lent_of
 returns c =
     let left : Back c.within-n.result c.filled-lent.result c.encode_write-encoded.new.lent =
-      back _ _ _ (within-whole _ c.filled-lent.result c.within-n.ensures.1 c.filled-lent.ensures.1) c.encode_write-encoded.auto.lent in
+    back _ _ _ (within-whole _ c.filled-lent.result c.within-n.ensures.1 c.filled-lent.ensures.1) c.encode_write-encoded.auto.lent in
     rw (c.write_decoded.ensures, left.front, c.unaddressed.ensures, c.encode_write-encoded.ensures, c.within-n.ensures.0, c.filled-lent.ensures.0)
