@@ -24,9 +24,10 @@ struct Bench {
     // Whether the line is whole, and whether it is the last.
     whole: bool,
     last: bool,
-    // How many bytes of the page of answers are filled, and whether all before them were written out.
+    // How many bytes of the page of answers are filled, whether all before them were written out, and whether whoever read them has closed the pipe.
     at: usize,
     written: bool,
+    closed: bool,
 }
 
 // One byte more than the longest line is held, so that a longer line is seen to be too long.
@@ -71,7 +72,10 @@ fn find(mut kept: Bench, block: &[u8], line: &mut [u8]) -> Bench {
 // Once a write has failed nothing more is written, so that no answer is missing between two others.
 fn write_out(output: io::Stdout, mut kept: Bench, out: &[u8]) -> Bench {
     if kept.written {
-        kept.written = output.write_all(front(out, kept.at)).is_ok();
+        if let Err(error) = output.write_all(front(out, kept.at)) {
+            kept.written = false;
+            kept.closed = matches!(error.kind(), io::ErrorKind::BrokenPipe);
+        }
     }
     kept.at = 0;
     kept
@@ -136,10 +140,10 @@ fn text<'a>(kept: Bench, block: &'a [u8], line: &'a [u8]) -> &'a [u8] {
 }
 
 // Writes the last answers out.
-// If a write failed, now or before, standard error says so.
+// If a write failed, now or before, standard error says so, but where the pipe was closed.
 fn finish(rt: &HostRuntime, kept: Bench, out: &[u8]) -> io::Result<()> {
     let done = write_out(rt.stdout(), kept, out);
-    if !done.written {
+    if !done.written & !done.closed {
         return rt
             .stderr()
             .write_all(b"bench: the answers could not be written\n");
@@ -167,6 +171,7 @@ fn nothing() -> Bench {
         last: false,
         at: 0,
         written: true,
+        closed: false,
     }
 }
 

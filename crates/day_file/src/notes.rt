@@ -21,7 +21,7 @@ pub(crate) fn say_numbers(rt: &HostRuntime, form: &[u8], numbers: &[u64]) {
     say(rt, front(&line, at));
 }
 
-// Says what stopped the work, and gives whether nothing did.
+// Says what stopped the work, and gives whether nothing did. Of a pipe that was closed nothing is said.
 pub(crate) fn say_fault(rt: &HostRuntime, fault: u8) -> bool {
     if fault == rows::UNREAD {
         say(rt, b"day: the file could not be read\n");

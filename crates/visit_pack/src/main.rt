@@ -95,17 +95,18 @@ fn take_lines(text: &[u8], steps: &mut [u32]) -> Pack {
 }
 
 // Writes the record of so many words of steps.
-// If it can't be written, standard error says so.
+// If it can't be written, standard error says so, but where the pipe was closed.
 fn write_record(rt: &HostRuntime, steps: &[u32], out: &mut [u8]) -> io::Result<()> {
     match visit_write::write(steps, out) {
-        Written::Bytes(count) => {
-            if rt.stdout().write_all(front(out, count)).is_err() {
-                return rt
+        Written::Bytes(count) => match rt.stdout().write_all(front(out, count)) {
+            Ok(()) => Ok(()),
+            Err(error) => match error.kind() {
+                io::ErrorKind::BrokenPipe => Ok(()),
+                _ => rt
                     .stderr()
-                    .write_all(b"visit pack: the record could not be written\n");
-            }
-            Ok(())
-        }
+                    .write_all(b"visit pack: the record could not be written\n"),
+            },
+        },
         Written::Refused(number) => faults::say_size(rt.stderr(), number, out),
         Written::RefusedAt { number, place: _ } => faults::say_size(rt.stderr(), number, out),
     }

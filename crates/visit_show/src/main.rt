@@ -12,9 +12,10 @@ use visit_read::Read;
 // What is kept from step to step.
 #[derive(Drop)]
 struct Shown {
-    // How many bytes of the page are filled, and whether all before them were written out.
+    // How many bytes of the page are filled, whether all before them were written out, and whether whoever read them has closed the pipe.
     at: usize,
     written: bool,
+    closed: bool,
 }
 
 // Words of a list that holds the steps of every record.
@@ -27,7 +28,10 @@ const FULL: usize = 60000;
 // Once a write has failed nothing more is written, so that no line is missing between two others.
 fn write_out(output: io::Stdout, mut shown: Shown, page: &[u8]) -> Shown {
     if shown.written {
-        shown.written = output.write_all(front(page, shown.at)).is_ok();
+        if let Err(error) = output.write_all(front(page, shown.at)) {
+            shown.written = false;
+            shown.closed = matches!(error.kind(), io::ErrorKind::BrokenPipe);
+        }
     }
     shown.at = 0;
     shown
@@ -47,6 +51,7 @@ fn write_steps(output: io::Stdout, steps: &[u32], count: usize, page: &mut [u8])
     let mut shown = Shown {
         at: 0,
         written: true,
+        closed: false,
     };
     let mut k = 0;
     while k < count {
@@ -60,10 +65,10 @@ fn write_steps(output: io::Stdout, steps: &[u32], count: usize, page: &mut [u8])
 }
 
 // Shows the steps of a record.
-// If a write failed, standard error says so.
+// If a write failed, standard error says so, but where the pipe was closed.
 fn show_steps(rt: &HostRuntime, steps: &[u32], count: usize, page: &mut [u8]) -> io::Result<()> {
     let shown = write_steps(rt.stdout(), steps, count, page);
-    if !shown.written {
+    if !shown.written & !shown.closed {
         return rt
             .stderr()
             .write_all(b"visit show: the text could not be written\n");
