@@ -1,11 +1,10 @@
 /* Onegrish for C and firmware: what a BME280's or a BMP280's bytes say, exactly, and which of them say nothing.
  *
  * The library is proved: each function below does what its comment says, for all input that fits the types. It is built
- * for x86-64 Linux alone. Link libonegrish.a (`rt staticlib onegrish`), for the two functions over kept words
- * libonegrish_words.a (`rt staticlib onegrish_words`), for a day in one call libonegrish_day.a (`rt staticlib onegrish_day`),
- * for a BMP280's reading libonegrish_bmp280.a (`rt staticlib onegrish_bmp280`), for the three on map points and rooms
- * libonegrish_rooms.a (`rt staticlib onegrish_rooms`), and for the four on visit records libonegrish_visit.a
- * (`rt staticlib onegrish_visit`). Functions over a reading's bytes are for a BME280 where nothing else is said. Waits, polls, bus
+ * for x86-64 Linux alone. tools/library builds the archives. Link libonegrish.a, for the two functions over kept words
+ * libonegrish_words.a, for a day in one call libonegrish_day.a, for a BMP280's reading libonegrish_bmp280.a, for the three
+ * on map points and rooms libonegrish_rooms.a, and for the four on visit records libonegrish_visit.a.
+ * Functions over a reading's bytes are for a BME280 where nothing else is said. Waits, polls, bus
  * bytes, two channels compared and visit records are the same for a BMP280; its wait is the one with the third code 0.
  *
  * Every function ends, allocates nothing, keeps no state and calls nothing. Any number of threads may call it.
