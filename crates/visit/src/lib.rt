@@ -1,8 +1,8 @@
 // Visit records: their types, tags and limits. What a record is, and how it is read and written, is defined in specs/. Nothing here runs.
 
-// Tags. A value has the tag of its channel.
 #![tactic(auto)]
 
+// Tags. A value has the tag of its channel.
 pub const GROUP: u8 = 1;
 
 pub const TIME: u8 = 2;
