@@ -10,6 +10,7 @@ use bench_machine::Answered;
 use kinds::Kind;
 use std::io;
 use std::io::{Print, Read};
+use std::process::ExitCode;
 
 // What is kept from line to line beside the machine.
 #[derive(Clone, Copy)]
@@ -24,7 +25,7 @@ struct Bench {
     // Whether the line is whole, and whether it is the last.
     whole: bool,
     last: bool,
-    // How many bytes of the page of answers are filled, whether all before them were written out, and whether whoever read them has closed the pipe.
+    // How many bytes of the page of answers are filled, whether all before them were written out, and whether nobody reads them any more.
     at: usize,
     written: bool,
     closed: bool,
@@ -140,10 +141,13 @@ fn text<'a>(kept: Bench, block: &'a [u8], line: &'a [u8]) -> &'a [u8] {
 }
 
 // Writes the last answers out.
-// If a write failed, now or before, standard error says so, but where the pipe was closed.
+// If a write failed, now or before, standard error says so, unless nobody reads the answers any more.
 fn finish(rt: &HostRuntime, kept: Bench, out: &[u8]) -> io::Result<()> {
     let done = write_out(rt.stdout(), kept, out);
-    if !done.written & !done.closed {
+    if done.closed {
+        return Err(io::Error::from(io::ErrorKind::BrokenPipe));
+    }
+    if !done.written {
         return rt
             .stderr()
             .write_all(b"bench: the answers could not be written\n");
@@ -198,9 +202,20 @@ fn serve(rt: &HostRuntime, block: &mut [u8], line: &mut [u8], out: &mut [u8]) ->
     finish(rt, kept, out)
 }
 
-fn main(rt: HostRuntime) -> io::Result<()> {
+// The exit status after an error: of a pipe that nobody reads any more, what its signal gives.
+fn status(error: io::Error) -> ExitCode {
+    if error.kind() == io::ErrorKind::BrokenPipe {
+        return ExitCode::from(141);
+    }
+    ExitCode::FAILURE
+}
+
+fn main(rt: HostRuntime) -> ExitCode {
     let mut block = [0u8; 65536];
     let mut line = [0u8; HELD];
     let mut out = [0u8; 65536];
-    serve(&rt, &mut block, &mut line, &mut out)
+    match serve(&rt, &mut block, &mut line, &mut out) {
+        Ok(()) => ExitCode::SUCCESS,
+        Err(error) => status(error),
+    }
 }

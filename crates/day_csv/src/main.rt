@@ -2,6 +2,13 @@
 
 #![tactic(auto)]
 
-fn main(rt: HostRuntime) {
-    day_file::show(&rt, true);
+use day_file::Ended;
+use std::process::ExitCode;
+
+// The exit status: where nobody reads the lines any more, what the signal of a closed pipe gives.
+fn main(rt: HostRuntime) -> ExitCode {
+    match day_file::show(&rt, true) {
+        Ended::Closed => ExitCode::from(141),
+        _ => ExitCode::SUCCESS,
+    }
 }

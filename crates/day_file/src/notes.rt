@@ -21,15 +21,15 @@ pub(crate) fn say_numbers(rt: &HostRuntime, form: &[u8], numbers: &[u64]) {
     say(rt, front(&line, at));
 }
 
-// Says what stopped the work, and gives whether nothing did. Of a pipe that was closed nothing is said.
-pub(crate) fn say_fault(rt: &HostRuntime, fault: u8) -> bool {
+// Says what stopped the work, and gives it back. Nothing is said where nobody reads the text any more.
+pub(crate) fn say_fault(rt: &HostRuntime, fault: u8) -> u8 {
     if fault == rows::UNREAD {
         say(rt, b"day: the file could not be read\n");
     }
     if fault == rows::UNWRITTEN {
         say(rt, b"day: the text could not be written\n");
     }
-    fault == 0
+    fault
 }
 
 // The terminal of someone who watches, to whom the lines themselves do not go; or none.

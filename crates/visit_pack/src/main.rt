@@ -9,6 +9,7 @@ mod lines; // a line's parts
 use bench_bytes::{front, rest};
 use std::io;
 use std::io::Print;
+use std::process::ExitCode;
 use visit_input::Input;
 use visit_place::Place;
 use visit_write::Written;
@@ -95,21 +96,25 @@ fn take_lines(text: &[u8], steps: &mut [u32]) -> Pack {
 }
 
 // Writes the record of so many words of steps.
-// If it can't be written, standard error says so, but where the pipe was closed.
+// If it can't be written, standard error says so.
 fn write_record(rt: &HostRuntime, steps: &[u32], out: &mut [u8]) -> io::Result<()> {
     match visit_write::write(steps, out) {
         Written::Bytes(count) => match rt.stdout().write_all(front(out, count)) {
             Ok(()) => Ok(()),
-            Err(error) => match error.kind() {
-                io::ErrorKind::BrokenPipe => Ok(()),
-                _ => rt
-                    .stderr()
-                    .write_all(b"visit pack: the record could not be written\n"),
-            },
+            Err(error) => say_unwritten(rt, error),
         },
         Written::Refused(number) => faults::say_size(rt.stderr(), number, out),
         Written::RefusedAt { number, place: _ } => faults::say_size(rt.stderr(), number, out),
     }
+}
+
+// Says that the record could not be written, unless nobody reads it any more.
+fn say_unwritten(rt: &HostRuntime, error: io::Error) -> io::Result<()> {
+    if error.kind() == io::ErrorKind::BrokenPipe {
+        return Err(error);
+    }
+    rt.stderr()
+        .write_all(b"visit pack: the record could not be written\n")
 }
 
 // Writes the record of the steps, or says that it would be too long.
@@ -153,9 +158,20 @@ fn pack_input(
     }
 }
 
-fn main(rt: HostRuntime) -> io::Result<()> {
+// The exit status after an error: of a pipe that nobody reads any more, what its signal gives.
+fn status(error: io::Error) -> ExitCode {
+    if error.kind() == io::ErrorKind::BrokenPipe {
+        return ExitCode::from(141);
+    }
+    ExitCode::FAILURE
+}
+
+fn main(rt: HostRuntime) -> ExitCode {
     let mut text = [0u8; TEXT];
     let mut steps = [0u32; WORDS];
     let mut out = [0u8; 65536];
-    pack_input(&rt, &mut text, &mut steps, &mut out)
+    match pack_input(&rt, &mut text, &mut steps, &mut out) {
+        Ok(()) => ExitCode::SUCCESS,
+        Err(error) => status(error),
+    }
 }

@@ -6,16 +6,16 @@ mod refusals; // what is said of a record that is refused
 use bench_bytes::front;
 use std::io;
 use std::io::Print;
+use std::process::ExitCode;
 use visit_input::Input;
 use visit_read::Read;
 
 // What is kept from step to step.
 #[derive(Drop)]
 struct Shown {
-    // How many bytes of the page are filled, whether all before them were written out, and whether whoever read them has closed the pipe.
+    // How many bytes of the page are filled, and whether all before them were written out.
     at: usize,
-    written: bool,
-    closed: bool,
+    written: io::Result<()>,
 }
 
 // Words of a list that holds the steps of every record.
@@ -27,11 +27,8 @@ const FULL: usize = 60000;
 // Writes the page out, and begins it anew.
 // Once a write has failed nothing more is written, so that no line is missing between two others.
 fn write_out(output: io::Stdout, mut shown: Shown, page: &[u8]) -> Shown {
-    if shown.written {
-        if let Err(error) = output.write_all(front(page, shown.at)) {
-            shown.written = false;
-            shown.closed = matches!(error.kind(), io::ErrorKind::BrokenPipe);
-        }
+    if shown.written.is_ok() {
+        shown.written = output.write_all(front(page, shown.at));
     }
     shown.at = 0;
     shown
@@ -50,8 +47,7 @@ fn write_steps(output: io::Stdout, steps: &[u32], count: usize, page: &mut [u8])
     let mut place = visit_place::start();
     let mut shown = Shown {
         at: 0,
-        written: true,
-        closed: false,
+        written: Ok(()),
     };
     let mut k = 0;
     while k < count {
@@ -65,15 +61,22 @@ fn write_steps(output: io::Stdout, steps: &[u32], count: usize, page: &mut [u8])
 }
 
 // Shows the steps of a record.
-// If a write failed, standard error says so, but where the pipe was closed.
+// If a write failed, standard error says so.
 fn show_steps(rt: &HostRuntime, steps: &[u32], count: usize, page: &mut [u8]) -> io::Result<()> {
     let shown = write_steps(rt.stdout(), steps, count, page);
-    if !shown.written & !shown.closed {
-        return rt
-            .stderr()
-            .write_all(b"visit show: the text could not be written\n");
+    match shown.written {
+        Ok(()) => Ok(()),
+        Err(error) => say_unwritten(rt, error),
     }
-    Ok(())
+}
+
+// Says that the text could not be written, unless nobody reads it any more.
+fn say_unwritten(rt: &HostRuntime, error: io::Error) -> io::Result<()> {
+    if error.kind() == io::ErrorKind::BrokenPipe {
+        return Err(error);
+    }
+    rt.stderr()
+        .write_all(b"visit show: the text could not be written\n")
 }
 
 // Shows a record, or says on standard error why it is refused.
@@ -100,9 +103,20 @@ fn show(rt: &HostRuntime, record: &mut [u8], steps: &mut [u32], page: &mut [u8])
     }
 }
 
-fn main(rt: HostRuntime) -> io::Result<()> {
+// The exit status after an error: of a pipe that nobody reads any more, what its signal gives.
+fn status(error: io::Error) -> ExitCode {
+    if error.kind() == io::ErrorKind::BrokenPipe {
+        return ExitCode::from(141);
+    }
+    ExitCode::FAILURE
+}
+
+fn main(rt: HostRuntime) -> ExitCode {
     let mut record = [0u8; 65536];
     let mut steps = [0u32; WORDS];
     let mut page = [0u8; 65536];
-    show(&rt, &mut record, &mut steps, &mut page)
+    match show(&rt, &mut record, &mut steps, &mut page) {
+        Ok(()) => ExitCode::SUCCESS,
+        Err(error) => status(error),
+    }
 }
