@@ -3,6 +3,9 @@
 
 usage: tools/respell.py          in the repository, once, after the kit's port.py
 
+It is kept for whoever compares what landed before the port with what stands now: run both on that older text. Where docs/PORT.md is there
+it has run, and refuses.
+
 It goes by whole names in .antt files, in .rt files outside strings, in must-fail edits and in the pages. A name of two words, as
 `mayWrite`, becomes `may_write`; a definition whose value is a type, as `handed`, becomes `Handed`. Functions of src/, exported names,
 strings, inputs and outputs have no such names and stay. A lemma that would then have its word's name gets `_lem`. It stops, and writes
@@ -13,6 +16,7 @@ import collections
 import pathlib
 import re
 import subprocess
+import sys
 
 NAME = re.compile(r"(?<![\w'])[a-z][a-z0-9]*(?:[A-Z][a-z0-9]*)+(?:'*)(?![\w'])")
 FACTS = {"laidOrNot": "LaidOrNot"}
@@ -60,7 +64,14 @@ def files(top, *patterns):
 
 
 def main():
+    if sys.argv[1:]:
+        asked = sys.argv[1:] in (["-h"], ["--help"])
+        print(__doc__ if asked else f"respell: takes no words, and got '{' '.join(sys.argv[1:])}'", file=sys.stdout if asked else sys.stderr)
+        return 0 if asked else 2
     top = pathlib.Path(subprocess.run(["git", "rev-parse", "--show-toplevel"], check=True, capture_output=True, text=True).stdout.strip())
+    if (top / "docs/PORT.md").exists():
+        print("respell: the names are respelled already (docs/PORT.md)", file=sys.stderr)
+        return 2
     proofs = list(files(top, "crates/*/specs/**/*.antt", "crates/*/proofs/**/*.antt"))
     sources = list(files(top, "crates/*/src/**/*.rt"))
     edits = list(files(top, "crates/*/must-fail/*.edit"))
