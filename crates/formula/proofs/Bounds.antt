@@ -14,10 +14,11 @@ use mir.Syntax.{Width, w16, w32, w64}
 use mir.Val.{SFits, hbits, to_z, of_z}
 use mir.Facts.{to_z-of_z, sfits_widen}
 use borrow.Author.Tests.{ltb-true, ltb-false, leb-true, lt-ltb}
+use Rattle.std.specs.Prelude.{Ok, Err}
 use Rattle.paper.specs.Numbers as no
+use Rattle.paper.specs.Answers.{missing}
 use Rattle.steps.specs.declared.Signed.{Signed}
 use Rattle.steps.specs.declared.Signed.TheVariants.{Bits32, Bits64}
-use Rattle.steps.specs.declared.Num.TheVariants.{Value, Broke}
 use Rattle.steps.specs.Step.{half_bits, kept, on_value, on_values, is_nonzero}
 use Rattle.steps.specs.Work.{Work, given, num, step₁, step₂, share, test, run}
 use Rattle.formula.specs.Plain.{Gives}
@@ -161,7 +162,7 @@ step : {w : Signed} {n : ℕ} (e : Work) (z : ℤ) → run w e ≡ kept w z → 
 step {w} {n} e z h s t =
     let r = ltb-true n (2 ^ half_bits w) t in
     let k = mag-le z in
-    record { is = h ∙ ap (λ (b : Bool). cond b (Value z) (Broke no.left_its_type)) (lt-ltb (mag z) (2 ^ half_bits w) (omega arith)); size = s; room = r }
+    record { is = h ∙ ap (λ (b : Bool). cond b (Ok z) (Err (missing no.left_its_type))) (lt-ltb (mag z) (2 ^ half_bits w) (omega arith)); size = s; room = r }
 
 module _ {w : Signed} {m : ℕ} {a : Work} {x : ℤ} (p : Gives w m a x) where
   one : {k : ℕ} (f : ℤ → ℤ) → nat_abs (f x) ≤ k → ltb k (2 ^ half_bits w) ≡ true → Gives w k (step₁ f a) (f (local x))
