@@ -45,6 +45,6 @@ pub fn degrees(fine: i64) -> Num
     ensures { result ≡ run Bits32 (degrees_line fine) }
 {
     let w = Signed::Bits32;
-    let product = multiply(w, Num::Value(fine), Num::Value(5));
-    shift_right(w, add(w, product, Num::Value(128)), 8)
+    let product = multiply(w, Ok(fine), Ok(5));
+    shift_right(w, add(w, product, Ok(128)), 8)
 }
