@@ -2,7 +2,7 @@
 // and the guard of the plain roads on the fine temperature.
 #![tactic(auto)]
 
-ghost use Rattle.std.specs.Prelude.{◌≡◌, pos, Ok};
+ghost use Rattle.std.specs.Prelude.{◌≡◌, IsOkAnd};
 ghost use Rattle.steps.specs.Work.{run, given, num, ◌-ʷ◌};
 ghost use Rattle.formula.specs.Plain.{is_usual};
 
@@ -22,39 +22,18 @@ pub type TemperatureAnswer = Result<Temperature, Missing>;
 // A pressure in Pa times 256 or a humidity in %RH times 1024, or what stands in its place.
 pub type ChannelAnswer = Result<u32, Missing>;
 
-// A count, or a word without a sign, as the number that a formula is given.
-pub fn unsigned(n: u32) -> Num
-    ensures { result ≡ Ok (pos n) }
+// A count, a word or a fine temperature, as the number that a formula is given.
+pub fn number<N: Into<i64>>(x: N) -> Num
+    ensures { IsOkAnd result (N.converts x) }
 {
-    Ok(n as i64)
-}
-
-// A word of 8 bits with a sign, as such a number.
-pub fn signed8(x: i8) -> Num
-    ensures { result ≡ Ok x }
-{
-    signed32(x as i32)
-}
-
-// A word of 16 bits with a sign, as such a number.
-pub fn signed16(x: i16) -> Num
-    ensures { result ≡ Ok x }
-{
-    signed32(x as i32)
-}
-
-// A fine temperature, as such a number.
-pub fn signed32(x: i32) -> Num
-    ensures { result ≡ Ok x }
-{
-    Ok(x as i64)
+    Ok(x.into())
 }
 
 // How far a fine temperature lies above where a formula starts, as one step.
 pub fn difference(width: Signed, fine: i32, start: u32) -> Num
     ensures { result ≡ run width (given fine -ʷ num start) }
 {
-    subtract(width, signed32(fine), unsigned(start))
+    subtract(width, number(fine), number(start))
 }
 
 // Whether a fine temperature is one from -43 to 93 degrees.
