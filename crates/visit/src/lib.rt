@@ -1,6 +1,9 @@
-// Visit records: their types, tags and limits. What a record is, and how it is read and written, is defined in specs/. Nothing here runs.
+// Visit records: their types, tags and limits. What a record is, and how it is read and written, is defined in specs/.
 
 #![tactic(auto)]
+
+ghost use Rattle.std.specs.Prelude.{◌≡◌};
+ghost use Rattle.visit.specs.declared.RecordError.TheVariants.{At};
 
 use paper::Refusal;
 
@@ -111,3 +114,25 @@ pub enum Stage {
 
 // What a step makes of a stage: the next one, or why there is none.
 pub type Turn = Result<Stage, Refusal>;
+
+// A fault in a record: the paper's number, 18 to 22, and the offset of the field or the place of the step that has it.
+#[derive(Clone, Copy, Debug, PartialEq, Eq)]
+pub struct Fault {
+    pub number: u8,
+    pub place: usize,
+}
+
+// Why a record is not read or not written: it is refused as a whole, or for the first fault in it.
+#[derive(Clone, Copy, Debug, PartialEq, Eq)]
+pub enum RecordError {
+    Whole(Refusal),
+    At(Fault),
+}
+
+impl From<Fault> for RecordError {
+    ghost from_gives = { λ fault error. error ≡ At fault };
+
+    fn from(fault: Fault) -> RecordError {
+        RecordError::At(fault)
+    }
+}
