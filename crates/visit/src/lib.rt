@@ -3,6 +3,7 @@
 #![tactic(auto)]
 
 ghost use Rattle.std.specs.Prelude.{◌≡◌};
+ghost use Rattle.visit.specs.Tree.{tag_of, most};
 ghost use Rattle.visit.specs.declared.RecordError.TheVariants.{At};
 
 use paper::Refusal;
@@ -61,6 +62,34 @@ pub enum Place {
     Temperature,
     Pressure,
     Humidity,
+}
+
+impl Place {
+    // The tag of a value here.
+    // Where only a group may stand it is 0.
+    pub fn tag(self) -> u8
+        ensures { result ≡ tag_of self }
+    {
+        match self {
+            Place::Group => 0,
+            Place::First => TIME,
+            Place::Temperature => TEMPERATURE,
+            Place::Pressure => PRESSURE,
+            Place::Humidity => HUMIDITY,
+        }
+    }
+
+    // The largest value here.
+    // Where only a group may stand it is 0.
+    pub fn most(self) -> u32
+        ensures { result ≡ most self }
+    {
+        match self {
+            Place::Group => 0,
+            Place::First | Place::Temperature | Place::Pressure => u32::MAX,
+            Place::Humidity => MOST_HUMIDITY,
+        }
+    }
 }
 
 // What a tag means at a place.
