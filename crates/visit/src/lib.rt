@@ -111,16 +111,20 @@ pub struct Absent {
 // A value's word, or why there is none. A temperature's word is its two's complement.
 pub type Answer = Result<u32, Absent>;
 
+// A time and the answers of its three channels.
+#[derive(Clone, Copy, Debug, PartialEq, Eq)]
+pub struct Slot {
+    pub time: u32,
+    pub temperature: Answer,
+    pub pressure: Answer,
+    pub humidity: Answer,
+}
+
 // A visit is a list of these. A stray step is none that a visit can have.
 #[derive(Clone, Copy, Debug, PartialEq, Eq)]
 pub enum Step {
     Open,
-    Slot {
-        time: u32,
-        temperature: Answer,
-        pressure: Answer,
-        humidity: Answer,
-    },
+    Slot(Slot),
     Close,
     Stray,
 }

@@ -18,16 +18,11 @@ pub fn words(step: Step) -> [u32; 8]
 {
     match step {
         Step::Open => [visit::OPEN, 0, 0, 0, 0, 0, 0, 0],
-        Step::Slot {
-            time,
-            temperature,
-            pressure,
-            humidity,
-        } => {
-            let [t, u] = answers::words(temperature);
-            let [p, q] = answers::words(pressure);
-            let [h, i] = answers::words(humidity);
-            [visit::SLOT, time, t, u, p, q, h, i]
+        Step::Slot(slot) => {
+            let [t, u] = answers::words(slot.temperature);
+            let [p, q] = answers::words(slot.pressure);
+            let [h, i] = answers::words(slot.humidity);
+            [visit::SLOT, slot.time, t, u, p, q, h, i]
         }
         Step::Close => [visit::CLOSE, 0, 0, 0, 0, 0, 0, 0],
         Step::Stray => [0, 0, 0, 0, 0, 0, 0, 0],

@@ -3,19 +3,19 @@ ghost use Rattle.std.specs.Prelude.{◌≡◌, ◌≤◌, length};
 ghost use Rattle.visit.specs.Words.{slot_from, step_from};
 
 use crate::answers;
-use visit::Step;
+use visit::{Slot, Step};
 
 // The slot that the first eight words say, whatever the first of them is.
 fn slot_from(words: &[u32]) -> Step
     requires { 8 ≤ length words.now }
     ensures { result ≡ slot_from words.now }
 {
-    Step::Slot {
+    Step::Slot(Slot {
         time: words[1],
         temperature: answers::answer_from(words[2], words[3]),
         pressure: answers::answer_from(words[4], words[5]),
         humidity: answers::answer_from(words[6], words[7]),
-    }
+    })
 }
 
 // The step that the first eight words say.
