@@ -7,11 +7,12 @@ use mathlib.Core.List.{List, [], ◌∷◌, ◌++◌, append_assoc}
 use mathlib.Core.Path.{◌≡◌, refl, sym, ap, ◌∙◌}
 use lib.Dec.{leb}
 use lib.ListN.{length, length-append}
+use Rattle.std.specs.Prelude.{Ok, Err}
 use Rattle.visit.specs.declared.Place.{Place}
 use Rattle.visit.specs.declared.Place.TheVariants as place
 use Rattle.visit.specs.declared.Holds.TheVariants as holds
 use Rattle.visit.specs.declared.Stage.TheVariants as stage
-use Rattle.visit.specs.Steps.{Answer, value, missing, Step, opened, slot, closed, stray, around}
+use Rattle.visit.specs.Steps.{Answer, Step, opened, slot, closed, stray, around}
 use Rattle.visit.specs.Tree.{Reading, exact, gone, Group, Groups, of_slot, of_groups, none, more, most, has_value, has_missing, Within, Valid, AllValid, answer_of}
 use Rattle.visit.specs.Tree.{steps_in, steps_in_all, steps_of, plain_reading, plain, plain_all}
 use Rattle.visit.specs.Writer.{onward, halt, is_within, slot_fits, up, turn, fine, go_on, checked}
@@ -22,24 +23,24 @@ use Rattle.paper.specs.Numbers as no
 -- ---- accepted steps are those of a tree
 
 abbrev reading_of : Answer → Reading
-reading_of (value v) = exact v
-reading_of (missing n) = gone n
+reading_of (Ok v) = exact v
+reading_of (Err a) = gone a.number
 
 answer_back : (a : Answer) → answer_of (reading_of a) ≡ a
-answer_back (value v) = refl
-answer_back (missing n) = refl
+answer_back (Ok v) = refl
+answer_back (Err a) = refl
 
 plain_back : (a : Answer) → plain_reading (reading_of a) ≡ reading_of a
-plain_back (value v) = refl
-plain_back (missing n) = refl
+plain_back (Ok v) = refl
+plain_back (Err a) = refl
 
 both-parts : (a b : Bool) → a && b ≡ true → (a ≡ true) × (b ≡ true)
 both-parts true b e = (refl, e)
 both-parts false b e = apart (cc)
 
 within-back : (p : Place) (a : Answer) → has_value p ≡ true → has_missing p ≡ true → is_within p a ≡ true → Within p (reading_of a)
-within-back p (value v) x y e = (x, leb-true v (most p) e)
-within-back p (missing n) x y e = let b = both-parts (leb 10 n) (leb n 14) e in (y, (leb-true 10 n b.0, leb-true n 14 b.1))
+within-back p (Ok v) x y e = (x, leb-true v (most p) e)
+within-back p (Err a) x y e = let b = both-parts (leb 10 a.number) (leb a.number 14) e in (y, (leb-true 10 a.number b.0, leb-true a.number 14 b.1))
 
 -- what a group holds, up to its close, and the steps after that
 pub record In (l : ℕ) (ss : List Step) : Type 0 where

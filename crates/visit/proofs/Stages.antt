@@ -5,12 +5,13 @@ use mathlib.Core.Bool.{Bool, true, false, cond}
 use mathlib.Core.List.{List, [], ◌∷◌, ◌++◌}
 use mathlib.Core.Path.{◌≡◌, refl, sym, ap, subst, ◌∙◌}
 use lib.ListN.{length}
+use Rattle.std.specs.Prelude.{Ok, Err}
 use Rattle.visit.specs.declared.Holds.{Holds}
 use Rattle.visit.specs.declared.Holds.TheVariants as holds
 use Rattle.visit.specs.declared.Stage.{Stage}
 use Rattle.visit.specs.declared.Stage.TheVariants as stage
 use Rattle.visit.specs.Steps.{value, Step, opened, slot, closed, stray}
-use Rattle.visit.specs.Writer.{onward, halt, slot_fits, up, turn, fine, go_on, checked}
+use Rattle.visit.specs.Writer.{Turn, onward, halt, slot_fits, up, turn, fine, go_on, checked}
 use Rattle.visit.specs.Refusals.{open_from, Last, nothing, the, last_from, open_number, slot_number, number_for, Begins}
 use Rattle.visit.proofs.Apart.{apart}
 use Rattle.visit.proofs.Building.{tree-from}
@@ -96,8 +97,12 @@ reached-tells st end (stray ∷ p) d last h r = reached-tells r.0 end p d (the s
 
 -- ---- the number of a refused step
 
+abbrev number_in : Turn → ℕ
+number_in (Ok st) = 0
+number_in (Err r) = r.number
+
 number_of : (a n : ℕ) → halt a ≡ halt n → n ≡ a
-number_of a n e = cc
+number_of a n e = sym (ap number_in e)
 
 four-open : (d : ℕ) → d ≡ 4 → open_number d (the opened) ≡ no.too_deep
 four-open d e = rw e

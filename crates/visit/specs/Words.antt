@@ -1,6 +1,6 @@
 -- A list of steps as flat numbers, eight words a step: what it is, the time, and of each channel its number and its value.
 -- The number is 0 for a value, and else that of a missing answer, beside which no value is looked at.
-use Rattle.std.specs.Prelude.{ℕ, zero, suc, ◌/◌, cond, List, [], ◌∷◌, ◌++◌, eqb, length, get_or, drop}
+use Rattle.std.specs.Prelude.{ℕ, zero, suc, ◌/◌, cond, List, [], ◌∷◌, ◌++◌, eqb, length, get_or, drop, Ok, Err}
 use Rattle.visit.specs.Steps.{Answer, value, missing, Step, opened, slot, closed, stray}
 
 abbrev pub words_each : ℕ
@@ -9,12 +9,12 @@ words_each = 8
 -- ---- a step's words
 
 abbrev pub number_word : Answer → ℕ
-number_word (value v) = 0
-number_word (missing n) = n
+number_word (Ok v) = 0
+number_word (Err a) = a.number
 
 abbrev pub value_word : Answer → ℕ
-value_word (value v) = v
-value_word (missing n) = 0
+value_word (Ok v) = v
+value_word (Err a) = 0
 
 abbrev pub mark_only : ℕ → List ℕ
 mark_only mark = mark ∷ 0 ∷ 0 ∷ 0 ∷ 0 ∷ 0 ∷ 0 ∷ 0 ∷ []

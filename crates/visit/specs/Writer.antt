@@ -1,24 +1,34 @@
 -- The writer. Its checks are one walk over the steps with a small state. Its bytes are worked out from the last step back, so that
 -- a group's length is known where its header is written.
-use Rattle.std.specs.Prelude.{ℕ, zero, suc, ◌+◌, Bool, cond, ◌&&◌, List, [], ◌∷◌, ◌++◌, ltb, leb}
+use Rattle.std.specs.Prelude.{ℕ, zero, suc, ◌+◌, Bool, cond, ◌&&◌, List, [], ◌∷◌, ◌++◌, ltb, leb, Result, Ok, Err}
 use Rattle.visit.specs.declared.Place.{Place}
 use Rattle.visit.specs.declared.Place.TheVariants as place
 use Rattle.visit.specs.declared.Holds.{Holds}
 use Rattle.visit.specs.declared.Holds.TheVariants as holds
 use Rattle.visit.specs.declared.Stage.{Stage}
 use Rattle.visit.specs.declared.Stage.TheVariants as stage
-pub use Rattle.visit.specs.declared.Turn.{Turn}
-pub use Rattle.visit.specs.declared.Turn.TheVariants.{Onward as onward, Halt as halt}
-use Rattle.visit.specs.Steps.{Answer, value, missing, Step, opened, slot, closed, stray}
+use Rattle.visit.specs.Steps.{Answer, value, Step, opened, slot, closed, stray}
 use Rattle.visit.specs.Tags as tag
 use Rattle.visit.specs.Tree.{tag_of, most, four_bytes, framed}
 use Rattle.paper.specs.Numbers as no
+use Rattle.paper.specs.Answers.{refusal}
+use Rattle.paper.specs.declared.Refusal.{Refusal}
 
 -- ---- the checks
 
+-- what a step makes of a stage
+abbrev pub Turn : Type 0
+Turn = Result Stage Refusal
+
+abbrev pub onward : Stage → Turn
+onward next = Ok next
+
+abbrev pub halt : ℕ → Turn
+halt number = Err (refusal number)
+
 abbrev pub is_within : Place → Answer → Bool
-is_within p (value v) = leb v (most p)
-is_within p (missing n) = leb tag.first_missing n && leb n tag.last_missing
+is_within p (Ok v) = leb v (most p)
+is_within p (Err a) = leb tag.first_missing a.number && leb a.number tag.last_missing
 
 unfoldable pub slot_fits : ℕ → Answer → Answer → Answer → Bool
 slot_fits time t p h =
@@ -83,8 +93,8 @@ at_end (stage.Open l held) i = wrong no.tag_out_of_place i
 at_end stage.Done i = fine
 
 abbrev pub go_on : Turn → ℕ → (Stage → Checked) → Checked
-go_on (onward st) i k = k st
-go_on (halt number) i k = wrong number i
+go_on (Ok st) i k = k st
+go_on (Err r) i k = wrong r.number i
 
 unfoldable pub checked : Stage → List Step → ℕ → Checked
 checked st [] i = at_end st i
@@ -93,8 +103,8 @@ checked st (s ∷ ss) i = go_on (turn st s) i (λ next. checked next ss (i + 1))
 -- ---- the bytes
 
 abbrev pub answer_bytes : Place → Answer → List ℕ
-answer_bytes p (value v) = tag_of p ∷ 0 ∷ 4 ∷ four_bytes v
-answer_bytes p (missing n) = tag.missing ∷ 0 ∷ 2 ∷ tag_of p ∷ n ∷ []
+answer_bytes p (Ok v) = tag_of p ∷ 0 ∷ 4 ∷ four_bytes v
+answer_bytes p (Err a) = tag.missing ∷ 0 ∷ 2 ∷ tag_of p ∷ a.number ∷ []
 
 abbrev pub step_bytes : ℕ → Answer → Answer → Answer → List ℕ
 step_bytes time t p h =

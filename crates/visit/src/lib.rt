@@ -2,6 +2,8 @@
 
 #![tactic(auto)]
 
+use paper::Refusal;
+
 // Tags. A value has the tag of its channel.
 pub const GROUP: u8 = 1;
 
@@ -49,7 +51,7 @@ pub const SLOT: u32 = 2;
 pub const CLOSE: u32 = 3;
 
 // The places that a field can stand at: where only a group may stand, first in a group, and in a slot after its time.
-#[derive(Clone, Copy)]
+#[derive(Clone, Copy, Debug, PartialEq, Eq)]
 pub enum Place {
     Group,
     First,
@@ -59,7 +61,7 @@ pub enum Place {
 }
 
 // What a tag means at a place.
-#[derive(Clone, Copy)]
+#[derive(Clone, Copy, Debug, PartialEq, Eq)]
 pub enum Kind {
     Group,
     Value,
@@ -68,15 +70,17 @@ pub enum Kind {
     Strange,
 }
 
-// A value's word, or the number of a missing answer. A temperature's word is its two's complement.
-#[derive(Clone, Copy)]
-pub enum Answer {
-    Value(u32),
-    Missing(u32),
+// The number of a missing answer. A lent list may have any word there, so that this is wider than what a channel's number can be.
+#[derive(Clone, Copy, Debug, PartialEq, Eq)]
+pub struct Absent {
+    pub number: u32,
 }
 
+// A value's word, or why there is none. A temperature's word is its two's complement.
+pub type Answer = Result<u32, Absent>;
+
 // A visit is a list of these. A stray step is none that a visit can have.
-#[derive(Clone, Copy)]
+#[derive(Clone, Copy, Debug, PartialEq, Eq)]
 pub enum Step {
     Open,
     Slot {
@@ -90,7 +94,7 @@ pub enum Step {
 }
 
 // What the innermost open group holds so far.
-#[derive(Clone, Copy)]
+#[derive(Clone, Copy, Debug, PartialEq, Eq)]
 pub enum Holds {
     Nothing,
     Groups,
@@ -98,16 +102,12 @@ pub enum Holds {
 }
 
 // Where a list of steps stands: before the record, in a group under which so many levels may still be opened, or after the record.
-#[derive(Clone, Copy)]
+#[derive(Clone, Copy, Debug, PartialEq, Eq)]
 pub enum Stage {
     Start,
     Open(u8, Holds),
     Done,
 }
 
-// What a step makes of a stage: the next one, or the number that says why there is none.
-#[derive(Clone, Copy)]
-pub enum Turn {
-    Onward(Stage),
-    Halt(u8),
-}
+// What a step makes of a stage: the next one, or why there is none.
+pub type Turn = Result<Stage, Refusal>;
