@@ -14,7 +14,7 @@ use Rattle.visit.specs.declared.Kind.TheVariants as kind
 use Rattle.visit.specs.declared.Holds.TheVariants as holds
 use Rattle.visit.specs.declared.Stage.{Stage}
 use Rattle.visit.specs.declared.Stage.TheVariants as stage
-use Rattle.visit.specs.Steps.{Answer, Step, opened, slot, closed, stray}
+use Rattle.visit.specs.Steps.{Answer, Step, opened, slot, slotted, closed, stray}
 use Rattle.visit.specs.Tags as tag
 use Rattle.visit.specs.Reader.{kind_of, Front, holding, telling, failing, front, Field, grouped, answered, bad, field_from, Read, read, refused, taken, framed_steps, by_kind}
 use Rattle.visit.specs.Reader.{ended, joined, on_answer, slot_of, on_group, walk, body_from, body_of, field_of, record_from, read_record}
@@ -147,19 +147,19 @@ deeper-fault (suc l) = tt
 turn-fault : (st : Stage) (s : Step) → TurnFault (turn st s)
 unfolding turn
 turn-fault stage.Start opened = tt
-turn-fault stage.Start (slot time t p h) = omega arith
+turn-fault stage.Start (slotted s) = omega arith
 turn-fault stage.Start closed = omega arith
 turn-fault stage.Start stray = omega arith
 turn-fault (stage.Open l holds.Nothing) opened = deeper-fault l
-turn-fault (stage.Open l holds.Nothing) (slot time t p h) = pick TurnFault (slot_fits time t p h) (λ e. tt) (λ e. omega arith)
+turn-fault (stage.Open l holds.Nothing) (slotted s) = pick TurnFault (slot_fits s) (λ e. tt) (λ e. omega arith)
 turn-fault (stage.Open l holds.Nothing) closed = omega arith
 turn-fault (stage.Open l holds.Nothing) stray = omega arith
 turn-fault (stage.Open l holds.Groups) opened = deeper-fault l
-turn-fault (stage.Open l holds.Groups) (slot time t p h) = omega arith
+turn-fault (stage.Open l holds.Groups) (slotted s) = omega arith
 turn-fault (stage.Open l holds.Groups) closed = tt
 turn-fault (stage.Open l holds.Groups) stray = omega arith
 turn-fault (stage.Open l holds.Slot) opened = omega arith
-turn-fault (stage.Open l holds.Slot) (slot time t p h) = omega arith
+turn-fault (stage.Open l holds.Slot) (slotted s) = omega arith
 turn-fault (stage.Open l holds.Slot) closed = tt
 turn-fault (stage.Open l holds.Slot) stray = omega arith
 turn-fault stage.Done s = omega arith

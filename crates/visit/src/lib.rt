@@ -1,6 +1,10 @@
-// Visit records: their types, tags and limits. What a record is, and how it is read and written, is defined in specs/. Nothing here runs.
+// Visit records: their types, tags and limits. What a record is, and how it is read and written, is defined in specs/.
 
 #![tactic(auto)]
+
+ghost use Rattle.std.specs.Prelude.{◌≡◌};
+ghost use Rattle.visit.specs.Tree.{tag_of, most};
+ghost use Rattle.visit.specs.declared.RecordError.TheVariants.{At};
 
 use paper::Refusal;
 
@@ -60,6 +64,34 @@ pub enum Place {
     Humidity,
 }
 
+impl Place {
+    // The tag of a value here.
+    // Where only a group may stand it is 0.
+    pub fn tag(self) -> u8
+        ensures { result ≡ tag_of self }
+    {
+        match self {
+            Place::Group => 0,
+            Place::First => TIME,
+            Place::Temperature => TEMPERATURE,
+            Place::Pressure => PRESSURE,
+            Place::Humidity => HUMIDITY,
+        }
+    }
+
+    // The largest value here.
+    // Where only a group may stand it is 0.
+    pub fn most(self) -> u32
+        ensures { result ≡ most self }
+    {
+        match self {
+            Place::Group => 0,
+            Place::First | Place::Temperature | Place::Pressure => u32::MAX,
+            Place::Humidity => MOST_HUMIDITY,
+        }
+    }
+}
+
 // What a tag means at a place.
 #[derive(Clone, Copy, Debug, PartialEq, Eq)]
 pub enum Kind {
@@ -79,16 +111,20 @@ pub struct Absent {
 // A value's word, or why there is none. A temperature's word is its two's complement.
 pub type Answer = Result<u32, Absent>;
 
+// A time and the answers of its three channels.
+#[derive(Clone, Copy, Debug, PartialEq, Eq)]
+pub struct Slot {
+    pub time: u32,
+    pub temperature: Answer,
+    pub pressure: Answer,
+    pub humidity: Answer,
+}
+
 // A visit is a list of these. A stray step is none that a visit can have.
 #[derive(Clone, Copy, Debug, PartialEq, Eq)]
 pub enum Step {
     Open,
-    Slot {
-        time: u32,
-        temperature: Answer,
-        pressure: Answer,
-        humidity: Answer,
-    },
+    Slot(Slot),
     Close,
     Stray,
 }
@@ -111,3 +147,25 @@ pub enum Stage {
 
 // What a step makes of a stage: the next one, or why there is none.
 pub type Turn = Result<Stage, Refusal>;
+
+// A fault in a record: the paper's number, 18 to 22, and the offset of the field or the place of the step that has it.
+#[derive(Clone, Copy, Debug, PartialEq, Eq)]
+pub struct Fault {
+    pub number: u8,
+    pub place: usize,
+}
+
+// Why a record is not read or not written: it is refused as a whole, or for the first fault in it.
+#[derive(Clone, Copy, Debug, PartialEq, Eq)]
+pub enum RecordError {
+    Whole(Refusal),
+    At(Fault),
+}
+
+impl From<Fault> for RecordError {
+    ghost from_gives = { λ fault error. error ≡ At fault };
+
+    fn from(fault: Fault) -> RecordError {
+        RecordError::At(fault)
+    }
+}
