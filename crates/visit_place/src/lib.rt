@@ -41,7 +41,7 @@ pub fn after(place: Place, step: Step) -> Place
     match step {
         Step::Open => deeper(place),
         Step::Close => back(place),
-        Step::Slot { .. } | Step::Stray => place,
+        Step::Slot(_) | Step::Stray => place,
     }
 }
 

@@ -1,8 +1,8 @@
 -- A small visit as text, by the definitions.
 use Rattle.std.specs.Prelude.{List, [], ◌∷◌, ◌++◌, ◌≡◌, refl, ℕ}
-use Rattle.visit.specs.Steps.{value, missing as gone}
+use Rattle.visit.specs.Steps.{value, missing as gone, slot}
 use Rattle.visit.specs.declared.Step.{Step}
-use Rattle.visit.specs.declared.Step.TheVariants.{Open as opened, Slot as slot, Close as closed}
+use Rattle.visit.specs.declared.Step.TheVariants.{Open as opened, Close as closed}
 use Rattle.visit_date.specs.Dates as dates
 use Rattle.visit_figures.specs.Figures as figures
 use Rattle.visit_place.specs.Places as place

@@ -76,8 +76,8 @@ humidity level a = answered level (letters "humidity ") figures.humidity a
 
 unfoldable pub lines : Place → Step → List ℕ
 lines p opened = group p.level (number p)
-lines p (slot t a b c) =
-    time p.level t ++ (temperature p.level a ++ (pressure p.level b ++ humidity p.level c))
+lines p (slot s) =
+    time p.level s.time ++ (temperature p.level s.temperature ++ (pressure p.level s.pressure ++ humidity p.level s.humidity))
 lines p closed = []
 lines p stray = []
 

@@ -17,16 +17,11 @@ pub fn write_step(place: Place, step: Step, out: &mut [u8], at: usize) -> usize
 {
     match step {
         Step::Open => write_group(place.level, visit_place::number(place), out, at),
-        Step::Slot {
-            time,
-            temperature,
-            pressure,
-            humidity,
-        } => {
-            let a = write_time(place.level, time, out, at);
-            let b = write_temperature(place.level, temperature, out, a);
-            let c = write_pressure(place.level, pressure, out, b);
-            write_humidity(place.level, humidity, out, c)
+        Step::Slot(slot) => {
+            let a = write_time(place.level, slot.time, out, at);
+            let b = write_temperature(place.level, slot.temperature, out, a);
+            let c = write_pressure(place.level, slot.pressure, out, b);
+            write_humidity(place.level, slot.humidity, out, c)
         }
         Step::Close | Step::Stray => at,
     }
