@@ -1,7 +1,7 @@
 -- The commands, one in a row: its words, a capital for each argument, and what it asks by the arguments' numbers.
 -- B stands for bytes, whose number is their length, C for a code, D for a decimal, L for a buffer's length, P for a pair.
 -- S stands at the end of a row for any words, none too, and its number is the place where the words before them end.
-use Rattle.std.specs.Prelude.{ℕ, ◌-◌, ◌%◌, Bool, true, false, cond, ◌||◌, List, [], ◌∷◌, eqb, leb, length, get_or, map, Result, Ok, Err}
+use Rattle.std.specs.Prelude.{ℕ, ◌+◌, ◌-◌, ◌%◌, Bool, true, false, cond, ◌||◌, List, [], ◌∷◌, eqb, leb, length, get_or, map, Result, Ok, Err}
 use Prim.Native.String.{String}
 use Rattle.bench_page.specs.Page.{letters}
 use Rattle.bench_numbers.specs.declared.Reason.{Reason}
@@ -11,6 +11,7 @@ use Rattle.bus.specs.declared.Device.TheVariants.{At, Selected}
 use Rattle.kinds.specs.declared.Kind.{Kind}
 use Rattle.kinds.specs.declared.Kind.TheVariants.{Bme280, Bmp280}
 use Rattle.machine.specs.declared.Event.TheVariants as events
+use Rattle.bench_command.specs.declared.Words.{Words}
 use Rattle.bench_command.specs.declared.Sent.{Sent}
 use Rattle.bench_command.specs.declared.Shown.{Shown}
 use Rattle.bench_command.specs.declared.Shown.TheVariants.{Comp, Point, Cells, Rooms}
@@ -46,25 +47,12 @@ octet n k = (n at k) % 256
 abbrev pub long : List ℕ → ℕ → ℕ
 long n k = (n at k) % 4294967296
 
--- the words of a reading or two
+-- the words of a reading, of which the first stands at a place; and of a reading or two
+unfoldable pub words : List ℕ → ℕ → Words
+words n k = record { one = n at k; two = n at (k + 1); raw = n at (k + 2); t = octet n (k + 3); p = octet n (k + 4); h = octet n (k + 5) }
+
 unfoldable pub sent : List ℕ → Sent
-sent n = record {
-  one = n at 0;
-  two = n at 1;
-  raw = n at 2;
-  t = octet n 3;
-  p = octet n 4;
-  h = octet n 5;
-  second_one = n at 6;
-  second_two = n at 7;
-  second_raw = n at 8;
-  second_t = octet n 9;
-  second_p = octet n 10;
-  second_h = octet n 11;
-  temperature = long n 12;
-  pressure = long n 13;
-  humidity = long n 14;
-}
+sent n = record { first = words n 0; second = words n 6; temperature = long n 12; pressure = long n 13; humidity = long n 14 }
 
 abbrev pub reading : Kind → Shown → List ℕ → Asked
 reading kind shown n = asks.Question (the.Reading kind shown (sent n))

@@ -1,9 +1,9 @@
 // What a command and the numbers of its arguments ask.
-ghost use Rattle.std.specs.Prelude.{◌≡◌, ◌%◌};
+ghost use Rattle.std.specs.Prelude.{◌≡◌, ◌%◌, ◌≤◌};
 ghost use Rattle.bench_command.specs.Table as table;
 
 use crate::arguments::MOST;
-use crate::{Asked, Question, Sent, Shown};
+use crate::{Asked, Question, Sent, Shown, Words};
 use bus::{Bus, Device};
 use kinds::Kind;
 use machine::Event;
@@ -51,26 +51,33 @@ fn count(n: usize) -> u32
     (n % 4294967296) as u32
 }
 
+// The words of a reading, of which the first stands at a place.
+#[tactic(auto, unfolding(crate::specs::Table::words))]
+fn words(n: [usize; MOST], at: usize) -> Words
+    requires { at ≤ 10 }
+    ensures { result ≡ table.words n at }
+{
+    Words {
+        one: n[at],
+        two: n[at + 1],
+        raw: n[at + 2],
+        t: octet(n[at + 3]),
+        p: octet(n[at + 4]),
+        h: octet(n[at + 5]),
+    }
+}
+
 // The words of a reading or two.
-fn sent(numbers: [usize; MOST]) -> Sent
-    ensures { result ≡ table.sent numbers }
+#[tactic(auto, unfolding(crate::specs::Table::sent))]
+fn sent(n: [usize; MOST]) -> Sent
+    ensures { result ≡ table.sent n }
 {
     Sent {
-        one: numbers[0],
-        two: numbers[1],
-        raw: numbers[2],
-        t: octet(numbers[3]),
-        p: octet(numbers[4]),
-        h: octet(numbers[5]),
-        second_one: numbers[6],
-        second_two: numbers[7],
-        second_raw: numbers[8],
-        second_t: octet(numbers[9]),
-        second_p: octet(numbers[10]),
-        second_h: octet(numbers[11]),
-        temperature: count(numbers[12]),
-        pressure: count(numbers[13]),
-        humidity: count(numbers[14]),
+        first: words(n, 0),
+        second: words(n, 6),
+        temperature: count(n[12]),
+        pressure: count(n[13]),
+        humidity: count(n[14]),
     }
 }
 

@@ -15,24 +15,22 @@ mod rows;
 mod table;
 mod text;
 
-// The words of one reading or two in a line, zeros for what it lacks.
+// The words of one reading in a line: the lengths of the two blocks and of the data, and the three codes.
 #[derive(Clone, Copy)]
-pub struct Sent {
-    // Of the first: the lengths of the two blocks and of the data, and the three codes.
+pub struct Words {
     pub one: usize,
     pub two: usize,
     pub raw: usize,
     pub t: u8,
     pub p: u8,
     pub h: u8,
-    // Of the second.
-    pub second_one: usize,
-    pub second_two: usize,
-    pub second_raw: usize,
-    pub second_t: u8,
-    pub second_p: u8,
-    pub second_h: u8,
-    // The tolerances by which the two are compared.
+}
+
+// The words of one reading or two in a line, zeros for what it lacks, and the tolerances by which the two are compared.
+#[derive(Clone, Copy)]
+pub struct Sent {
+    pub first: Words,
+    pub second: Words,
     pub temperature: u32,
     pub pressure: u32,
     pub humidity: u32,
