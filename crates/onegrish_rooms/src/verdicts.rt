@@ -23,7 +23,7 @@ pub fn verdict_number(verdict: Verdict) -> u8
     }
 }
 
-// A channel as it is handed to C: its value where its number is 0.
+// A channel as C hands it over, a number with a value beside it: its value where its number is 0.
 pub fn take_channel(number: u8, value: i64) -> Whole
     ensures { result ≡ into.channel_of number value }
 {
