@@ -28,7 +28,8 @@ fn data_at(address: u8, m: Machine) -> u8
     if address < paper::FIRST_DATA || kinds::facts(m.device.kind).last < address {
         return 0;
     }
-    m.shown.bytes[(address - paper::FIRST_DATA) as usize]
+    let bytes = m.shown.bytes;
+    bytes[(address - paper::FIRST_DATA) as usize]
 }
 
 // The register at an address.
