@@ -1,7 +1,7 @@
 -- The loop over the steps' checks: what is left to check at a place gives what the whole list gives.
 use Prim.Native.Nat.{ℕ, ◌+◌, ◌/◌, ◌<◌}
 use mathlib.Core.List.{List, ◌∷◌}
-use mathlib.Core.Path.{◌≡◌, refl, sym, ap, ◌∙◌}
+use mathlib.Core.Path.{◌≡◌, sym, ap, ◌∙◌}
 use native.Mathlib.Omega.{arith}
 use lib.ListN.{length, drop, drop_of_length-le}
 use Rattle.std.specs.Prelude.{Ok, Err}
@@ -19,9 +19,6 @@ checked_all w = checked stage.Start (from_words w) 0
 
 pub record Checking (w : List ℕ) (k : ℕ) (st : Stage) : Type 0 where
   pub same : checked st (drop k (from_words w)) k ≡ checked_all w
-
-pub checking-start : (w : List ℕ) → Checking w 0 stage.Start
-checking-start w = record { same = refl }
 
 module _ (w : List ℕ) (k : ℕ) (st : Stage) (f : Checking w k st) where
   one_more : (s : Step) (t : Turn) → k < length w / words_each → s ≡ step_at w k → t ≡ turn st s
