@@ -3,7 +3,7 @@ use Prim.Native.Nat.{ℕ, ◌<◌}
 use mathlib.Core.List.{[], ◌∷◌}
 use mathlib.Core.Path.{◌≡◌, sym, ap}
 use native.Mathlib.Omega.{arith}
-use Rattle.std.specs.Prelude.{Result, Ok, Err}
+use Rattle.std.specs.Prelude.{Result, Ok, Err, IsErrAnd}
 use Rattle.paper.specs.declared.Refusal.{Refusal}
 use Rattle.paper.proofs.Answers.{same_number, same-values}
 use Rattle.visit.specs.declared.Fault.{Fault}
@@ -34,3 +34,8 @@ one-answer (Err (At f)) (Ok n) g h e = never f.number g (sym (same_number e))
 one-answer (Err (At f)) (Err (Whole r)) g h e = cc (same-values e)
 one-answer (Err (At f)) (Err (At j)) g h e =
     ap (λ (x : Fault). Err (At x)) (same-fault f j (same_number e) (same-place f.place j.place (same-values e)))
+
+-- a fault that is passed on
+pub passed_on : (r : Result ℕ RecordError) (f : Fault) → IsErrAnd r (λ e. e ≡ At f) → r ≡ Err (At f)
+passed_on (Ok n) f g = absurd g
+passed_on (Err e) f g = rw g

@@ -15,9 +15,8 @@ use Rattle.visit.specs.Tags as tag
 use Rattle.visit.specs.Reader as reader
 use Rattle.visit.specs.Lent.{read_by, read_into}
 use Rattle.paper.specs.Numbers as no
-use Rattle.std.specs.Prelude.{Result, Ok, Err, IsErrAnd}
+use Rattle.std.specs.Prelude.{Ok, Err}
 use Rattle.visit.specs.declared.Fault.{Fault}
-use Rattle.visit.specs.declared.RecordError.{RecordError}
 use Rattle.visit.specs.declared.RecordError.TheVariants.{Whole, At}
 use Rattle.visit.specs.Answers.{fault, Tells}
 use Rattle.paper.specs.Answers.{refusal}
@@ -138,11 +137,6 @@ module _ (s lent : List ℕ) (h : length s ≤ tag.most_bytes) (x : Filling) (li
       go : (r : reader.Read) → ShowsRead r 0 [] (whole_at s []) → ShowsRead r 0 list (whole_at s list) → X
       go (reader.read held) w v = done_refused (0 + length held) f (sym (sym g ∙ ap (λ (z : Filling × List ℕ). z.0) (d ∙ v)))
       go (reader.refused m p) w v = done_refused k (fault m p) (sym e ∙ is-counted ∙ w)
-
--- a fault that is passed on
-pub passed_on : (r : Result ℕ RecordError) (f : Fault) → IsErrAnd r (λ e. e ≡ At f) → r ≡ Err (At f)
-passed_on (Ok n) f g = absurd g
-passed_on (Err e) f g = rw g
 
 -- ---- an empty part at the list's end
 

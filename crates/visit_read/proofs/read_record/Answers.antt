@@ -1,6 +1,7 @@
 -- What was counted decides, and only a record that fits is read a second time, into the list.
 use Rattle.std.proofs.Common.{refl}
-use Rattle.visit_read.proofs.SameWhole.{visit-long, visit-refused, refusal-told, visit-short, visit-read, not-refused, passed_on}
+use Rattle.visit.proofs.OneAnswer.{passed_on}
+use Rattle.visit_read.proofs.SameWhole.{visit-long, visit-refused, refusal-told, visit-short, visit-read, not-refused}
 use Rattle.visit_read.proofs.read_record.Goals as goal
 
 pub returns-then-bytes-gt-MOST_BYTES-clause-steps_after : goal.returns-then-bytes-gt-MOST_BYTES-clause-steps_after
