@@ -11,6 +11,7 @@ use Rattle.bus.specs.Writing.{encoded_write, decoded_write}
 use Rattle.bus.specs.Reading.{encoded_read}
 use Rattle.waiting.specs.Waiting.{waited, maximum, typical}
 use Rattle.waiting.specs.Polling.{polled}
+use Rattle.bench_command.specs.declared.Words.{Words}
 use Rattle.bench_command.specs.declared.Sent.{Sent}
 use Rattle.bench_command.specs.declared.Shown.{Shown}
 use Rattle.bench_command.specs.declared.Shown.TheVariants.{Comp, Point, Cells, Rooms}
@@ -31,15 +32,14 @@ cal one two bytes = readings.cal (take one bytes) (take two (drop one bytes))
 
 -- ---- readings of a kind of part: two blocks and the data; the bytes of a second reading follow those of the first
 
-unfoldable pub answer : Kind → ℕ → ℕ → ℕ → ℕ → ℕ → ℕ → List ℕ → Answer
-answer kind one two raw t p h bytes = compensated_by kind (take one bytes) (take two (drop one bytes)) (take raw (drop two (drop one bytes))) t p h
+unfoldable pub answer : Kind → Words → List ℕ → Answer
+answer kind w bytes = compensated_by kind (take w.one bytes) (take w.two (drop w.one bytes)) (take w.raw (drop w.two (drop w.one bytes))) w.t w.p w.h
 
 abbrev pub first : Kind → Sent → List ℕ → Answer
-first kind s bytes = answer kind s.one s.two s.raw s.t s.p s.h bytes
+first kind s bytes = answer kind s.first bytes
 
 abbrev pub second : Kind → Sent → List ℕ → Answer
-second kind s bytes =
-    answer kind s.second_one s.second_two s.second_raw s.second_t s.second_p s.second_h (drop s.raw (drop s.two (drop s.one bytes)))
+second kind s bytes = answer kind s.second (drop s.first.raw (drop s.first.two (drop s.first.one bytes)))
 
 abbrev pub tolerances : Sent → Tolerances
 tolerances s = record { temperature = s.temperature; pressure = s.pressure; humidity = s.humidity }

@@ -7,7 +7,7 @@ ghost use Rattle.bench_phrases.specs.Phrases.{ended};
 ghost use Rattle.bench_question.specs.Questions as text;
 
 use bench_bytes::{front, rest};
-use bench_command::{Question, Sent, Shown};
+use bench_command::{Question, Sent, Shown, Words};
 use compensation::Answer;
 use kinds::Kind;
 use rooms::{Tolerances, Verdicts};
@@ -25,35 +25,45 @@ fn write_reply(question: Question, bytes: &[u8], out: &mut [u8], at: usize) -> u
     ensures { (out.new, result) ≡ (out.old, at) ▹ text.replied question bytes.now }
 {
     match question {
-        Question::Cal(one, two) => cal(one, two, bytes, out, at),
-        Question::Reading(kind, shown, sent) => reading(kind, shown, sent, bytes, out, at),
-        Question::WaitMaximum(t, p, h) => bench_waiting::wait_maximum(t, p, h, out, at),
-        Question::WaitTypical(t, p, h) => bench_waiting::wait_typical(t, p, h, out, at),
-        Question::Poll(allowance, status) => bench_waiting::poll(
+        Question::Cal { one, two } => cal(one, two, bytes, out, at),
+        Question::Reading { kind, shown, sent } => reading(kind, shown, sent, bytes, out, at),
+        Question::WaitMaximum { t, p, h } => bench_waiting::wait_maximum(t, p, h, out, at),
+        Question::WaitTypical { t, p, h } => bench_waiting::wait_typical(t, p, h, out, at),
+        Question::Poll { allowance, status } => bench_waiting::poll(
             front(bytes, status),
             allowance,
             out,
             at,
         ),
-        Question::BusWrite(device, pairs, room) => bench_bus::write(
+        Question::BusWrite {
             device,
-            front(bytes, pairs),
+            pairs,
             room,
-            out,
-            at,
-        ),
-        Question::BusDecode(bus, message, room) => bench_bus::decode(
+        } => bench_bus::write(device, front(bytes, pairs), room, out, at),
+        Question::BusDecode { bus, message, room } => bench_bus::decode(
             bus,
             front(bytes, message),
             room,
             out,
             at,
         ),
-        Question::BusRead(device, register, room) => bench_bus::read(
-            device, register, room, out, at,
+        Question::BusRead {
+            device,
+            register,
+            room,
+        } => bench_bus::read(device, register, room, out, at),
+        Question::VisitRead { record, room } => bench_visit::read(
+            front(bytes, record),
+            room,
+            out,
+            at,
         ),
-        Question::VisitRead(length, room) => bench_visit::read(front(bytes, length), room, out, at),
-        Question::Day(one, two, readings, room) => day(one, two, readings, room, bytes, out, at),
+        Question::Day {
+            one,
+            two,
+            readings,
+            room,
+        } => day(one, two, readings, room, bytes, out, at),
     }
 }
 
@@ -65,6 +75,7 @@ fn cal(one: usize, two: usize, bytes: &[u8], out: &mut [u8], at: usize) -> usize
 }
 
 // A day of readings, which are laid after the two blocks, with a lent list of so many answers.
+#[tactic(auto, unfolding(crate::specs::Questions::day))]
 fn day(
     one: usize,
     two: usize,
@@ -88,12 +99,11 @@ fn day(
 }
 
 // What is shown of a reading of a kind of part.
+#[tactic(auto, unfolding(crate::specs::Questions::reading))]
 fn reading(kind: Kind, shown: Shown, sent: Sent, bytes: &[u8], out: &mut [u8], at: usize) -> usize
     ensures { (out.new, result) ≡ (out.old, at) ▹ text.reading kind shown sent bytes.now }
 {
-    let answer = compensate(
-        kind, sent.one, sent.two, sent.raw, sent.t, sent.p, sent.h, bytes,
-    );
+    let answer = compensate(kind, sent.first, bytes);
     match shown {
         Shown::Comp => bench_reading::comp(answer, out, at),
         Shown::Point => bench_rooms::point(rooms::make_point(answer), out, at),
@@ -103,22 +113,17 @@ fn reading(kind: Kind, shown: Shown, sent: Sent, bytes: &[u8], out: &mut [u8], a
 }
 
 // How a reading compares with the second, of the same kind of part, whose bytes follow its own.
+#[tactic(auto, unfolding(crate::specs::Questions::compared))]
 fn compare(kind: Kind, answer: Answer, sent: Sent, bytes: &[u8]) -> Verdicts
     ensures { result ≡ text.compared kind answer sent bytes.now }
 {
-    let after = rest(rest(rest(bytes, sent.one), sent.two), sent.raw);
+    let after = rest(
+        rest(rest(bytes, sent.first.one), sent.first.two),
+        sent.first.raw,
+    );
     rooms::compare_rooms(
         answer,
-        compensate(
-            kind,
-            sent.second_one,
-            sent.second_two,
-            sent.second_raw,
-            sent.second_t,
-            sent.second_p,
-            sent.second_h,
-            after,
-        ),
+        compensate(kind, sent.second, after),
         Tolerances {
             temperature: sent.temperature,
             pressure: sent.pressure,
@@ -128,26 +133,17 @@ fn compare(kind: Kind, answer: Answer, sent: Sent, bytes: &[u8]) -> Verdicts
 }
 
 // The reading of two blocks and the data, which are laid one after another, at three codes.
-fn compensate(
-    kind: Kind,
-    one: usize,
-    two: usize,
-    raw: usize,
-    t: u8,
-    p: u8,
-    h: u8,
-    bytes: &[u8],
-) -> Answer
-    ensures { result ≡ text.answer kind one two raw t p h bytes.now }
+fn compensate(kind: Kind, words: Words, bytes: &[u8]) -> Answer
+    ensures { result ≡ text.answer kind words bytes.now }
 {
-    let after = rest(bytes, one);
+    let after = rest(bytes, words.one);
     compensation_kinds::compensate(
         kind,
-        front(bytes, one),
-        front(after, two),
-        front(rest(after, two), raw),
-        t,
-        p,
-        h,
+        front(bytes, words.one),
+        front(after, words.two),
+        front(rest(after, words.two), words.raw),
+        words.t,
+        words.p,
+        words.h,
     )
 }
