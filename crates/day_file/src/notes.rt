@@ -1,5 +1,5 @@
 // What is said on standard error, and on descriptor 4 how far the work is.
-use crate::rows;
+use crate::rows::Fault;
 use bench_bytes::front;
 use std::fs;
 use std::fs::{File, OpenOptions};
@@ -21,15 +21,13 @@ pub(crate) fn say_numbers(rt: &HostRuntime, form: &[u8], numbers: &[u64]) {
     say(rt, front(&line, at));
 }
 
-// Says what stopped the work, and gives it back. Nothing is said where nobody reads the text any more.
-pub(crate) fn say_fault(rt: &HostRuntime, fault: u8) -> u8 {
-    if fault == rows::UNREAD {
-        say(rt, b"day: the file could not be read\n");
+// Says what stopped the work. Nothing is said where nobody reads the text any more.
+pub(crate) fn say_fault(rt: &HostRuntime, fault: Fault) {
+    match fault {
+        Fault::Unread => say(rt, b"day: the file could not be read\n"),
+        Fault::Unwritten => say(rt, b"day: the text could not be written\n"),
+        Fault::Closed => {}
     }
-    if fault == rows::UNWRITTEN {
-        say(rt, b"day: the text could not be written\n");
-    }
-    fault
 }
 
 // The terminal of someone who watches, to whom the lines themselves do not go; or none.
@@ -37,24 +35,17 @@ pub(crate) fn watcher(rt: &HostRuntime) -> Option<File> {
     if !is_device(rt) {
         return None;
     }
-    match OpenOptions::new().write(true).open(rt, WATCHER) {
-        Ok(file) => {
-            if file.is_terminal() & !rt.stdout().is_terminal() {
-                Some(file)
-            } else {
-                None
-            }
-        }
-        Err(_) => None,
+    let file = OpenOptions::new().write(true).open(rt, WATCHER).ok()?;
+    if file.is_terminal() & !rt.stdout().is_terminal() {
+        Some(file)
+    } else {
+        None
     }
 }
 
 // Whether the descriptor is a device, as a terminal is. Anything else is not opened.
 fn is_device(rt: &HostRuntime) -> bool {
-    match fs::metadata(rt, WATCHER) {
-        Ok(known) => known.file_type().is_char_device(),
-        Err(_) => false,
-    }
+    fs::metadata(rt, WATCHER).is_ok_and(|known| known.file_type().is_char_device())
 }
 
 // Says to whoever watches how far the work is.

@@ -11,9 +11,8 @@ use lib.Seq.{take-take, get_or-take, take-length}
 use borrow.Author.Tests.{ltb-true, ltb-false, eq-eqb, eqb-true, eqb-false}
 use Rattle.laws.specs.Tests.{both}
 use Rattle.paper.specs.Numbers as no
-use Rattle.calibration.specs.declared.Calibration.{Calibration}
-use Rattle.calibration.specs.declared.Calibration.TheVariants.{Known}
-use Rattle.calibration.specs.Calibration.{words_of, calibrated}
+use Rattle.std.specs.Prelude.{Ok}
+use Rattle.calibration.specs.Calibration.{Calibration, words_of, calibrated}
 use Rattle.compensation.specs.Compensation.{compensated}
 use Rattle.day_row.specs.Row.{numbers_of, answer_of}
 use Rattle.day_places.proofs.Kept.{loses-nothing}
@@ -56,7 +55,7 @@ here one two s k =
 -- ---- what fits
 
 module _ {one two s : List ℕ} {a : List ℤ} {n : ℕ} (f : Fits one two s a n) where
-  known_is : calibrated one two ≡ Known (words_of one two)
+  known_is : calibrated one two ≡ Ok (words_of one two)
   unfolding calibrated
   known_is = rw (f.first, f.second)
 

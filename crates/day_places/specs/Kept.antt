@@ -1,8 +1,8 @@
 -- A row says its answer again, and where it has no value a fixed 0 stands: statements (proofs/Kept.antt).
 use Rattle.std.specs.Prelude.{ℕ, ◌≡◌, List, ℤ, pos}
-use Rattle.compensation.specs.declared.Answer.{Answer}
-use Rattle.compensation.specs.declared.Answer.TheVariants.{Refused}
-use Rattle.compensation.specs.Compensation.{compensated}
+use Rattle.std.specs.Prelude.{Err}
+use Rattle.paper.specs.Answers.{refusal}
+use Rattle.compensation.specs.Compensation.{Answer, compensated}
 use Rattle.day_row.specs.Row.{at, numbers_of, answer_of}
 
 -- of every answer that the single call gives
@@ -28,4 +28,4 @@ pub record InEach (row : List ℤ) : Type 0 where
   pub humidity : at row 6 ≡ at row 0
 
 abbrev pub RefusedInEach : Type 0
-RefusedInEach = (n : ℕ) → InEach (numbers_of (Refused n))
+RefusedInEach = (n : ℕ) → InEach (numbers_of (Err (refusal n)))

@@ -2,8 +2,7 @@
 use Rattle.std.specs.Prelude.{ℕ, ◌*◌, ◌<◌, ◌≡◌, List, ◌++◌, ℤ, length, get_or, take, drop}
 use Rattle.paper.specs.Numbers as no
 use Rattle.paper.specs.Registers as reg
-use Rattle.compensation.specs.declared.Answer.{Answer}
-use Rattle.compensation.specs.Compensation.{compensated}
+use Rattle.compensation.specs.Compensation.{Answer, compensated}
 use Rattle.day_row.specs.Row.{numbers_of, answer_of}
 
 -- a call with two blocks, readings and lent answers: its number, and the answers afterwards
