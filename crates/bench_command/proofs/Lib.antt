@@ -1,3 +1,4 @@
 -- What the proofs cite of the table and its rows.
-pub mod Splitting
+pub mod Counting
+pub mod Opening
 pub mod Trying

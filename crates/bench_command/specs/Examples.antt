@@ -19,18 +19,8 @@ use Rattle.bench_command.specs.Commands.{asked}
 
 abbrev two-readings : ℕ → ℕ → ℕ → ℕ → ℕ → ℕ → ℕ → ℕ → ℕ → ℕ → ℕ → ℕ → ℕ → ℕ → ℕ → Sent
 two-readings one two raw t p h one' two' raw' t' p' h' temperature pressure humidity = record {
-  one = one;
-  two = two;
-  raw = raw;
-  t = t;
-  p = p;
-  h = h;
-  second_one = one';
-  second_two = two';
-  second_raw = raw';
-  second_t = t';
-  second_p = p';
-  second_h = h';
+  first = record { one = one; two = two; raw = raw; t = t; p = p; h = h };
+  second = record { one = one'; two = two'; raw = raw'; t = t'; p = p'; h = h' };
   temperature = temperature;
   pressure = pressure;
   humidity = humidity;
@@ -97,7 +87,7 @@ pub record Lines : Type 0 where
   pub long-buffer : asked (letters "spi write F427 257") (9 ∷ 9 ∷ 9 ∷ []) ≡ (Refused TooLong, 0xF4 ∷ 0x27 ∷ 9 ∷ [])
 
 pub lines-read : Lines
-unfolding asked table.tried table.commands table.sent table.is_of table.is_open table.fits table.asked_by words.count arguments.is_argument arguments.start arguments.stepped arguments.walked
+unfolding asked table.tried table.commands table.words table.sent table.is_of table.is_open table.fits table.asked_by words.count arguments.is_argument arguments.start arguments.stepped arguments.walked
     word reading.argument reading.number reading.octet reading.pair reading.second_digit
     reading.decimal reading.read_on reading.bytes reading.word_laid reading.is_dash reading.pairs_laid reading.digit_value reading.letter_value
 lines-read =

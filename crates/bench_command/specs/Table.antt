@@ -1,15 +1,17 @@
 -- The commands, one in a row: its words, a capital for each argument, and what it asks by the arguments' numbers.
 -- B stands for bytes, whose number is their length, C for a code, D for a decimal, L for a buffer's length, P for a pair.
 -- S stands at the end of a row for any words, none too, and its number is the place where the words before them end.
-use Rattle.std.specs.Prelude.{ℕ, ◌-◌, ◌%◌, Bool, true, false, cond, ◌||◌, List, [], ◌∷◌, eqb, leb, length, get_or, drop}
+use Rattle.std.specs.Prelude.{ℕ, ◌+◌, ◌-◌, ◌%◌, Bool, true, false, cond, ◌||◌, List, [], ◌∷◌, eqb, leb, length, get_or, map, Result, Ok, Err}
 use Prim.Native.String.{String}
 use Rattle.bench_page.specs.Page.{letters}
+use Rattle.bench_numbers.specs.declared.Reason.{Reason}
 use Rattle.bench_numbers.specs.declared.Reason.TheVariants.{UnknownWord, WrongNumberOfWords}
 use Rattle.bus.specs.declared.Bus.TheVariants.{I2c, Spi}
 use Rattle.bus.specs.declared.Device.TheVariants.{At, Selected}
 use Rattle.kinds.specs.declared.Kind.{Kind}
 use Rattle.kinds.specs.declared.Kind.TheVariants.{Bme280, Bmp280}
 use Rattle.machine.specs.declared.Event.TheVariants as events
+use Rattle.bench_command.specs.declared.Words.{Words}
 use Rattle.bench_command.specs.declared.Sent.{Sent}
 use Rattle.bench_command.specs.declared.Shown.{Shown}
 use Rattle.bench_command.specs.declared.Shown.TheVariants.{Comp, Point, Cells, Rooms}
@@ -17,8 +19,9 @@ use Rattle.bench_command.specs.declared.Question.{Question}
 use Rattle.bench_command.specs.declared.Question.TheVariants as the
 use Rattle.bench_command.specs.declared.Asked.{Asked}
 use Rattle.bench_command.specs.declared.Asked.TheVariants as asks
-use Rattle.bench_command.specs.declared.arguments.Outcome.{Outcome}
-use Rattle.bench_command.specs.declared.arguments.Outcome.TheVariants as outcomes
+use Rattle.bench_command.specs.declared.commands.Command.{Command}
+use Rattle.bench_command.specs.declared.commands.Command.TheVariants as code
+use denote.Bor.{Bor}
 use Rattle.bench_command.specs.declared.arguments.Progress.{Progress}
 use Rattle.bench_command.specs.Words.{is_space, count}
 use Rattle.bench_command.specs.Arguments.{is_argument, start, walked}
@@ -44,25 +47,12 @@ octet n k = (n at k) % 256
 abbrev pub long : List ℕ → ℕ → ℕ
 long n k = (n at k) % 4294967296
 
--- the words of a reading or two
+-- the words of a reading, of which the first stands at a place; and of a reading or two
+unfoldable pub words : List ℕ → ℕ → Words
+words n k = record { one = n at k; two = n at (k + 1); raw = n at (k + 2); t = octet n (k + 3); p = octet n (k + 4); h = octet n (k + 5) }
+
 unfoldable pub sent : List ℕ → Sent
-sent n = record {
-  one = n at 0;
-  two = n at 1;
-  raw = n at 2;
-  t = octet n 3;
-  p = octet n 4;
-  h = octet n 5;
-  second_one = n at 6;
-  second_two = n at 7;
-  second_raw = n at 8;
-  second_t = octet n 9;
-  second_p = octet n 10;
-  second_h = octet n 11;
-  temperature = long n 12;
-  pressure = long n 13;
-  humidity = long n 14;
-}
+sent n = record { first = words n 0; second = words n 6; temperature = long n 12; pressure = long n 13; humidity = long n 14 }
 
 abbrev pub reading : Kind → Shown → List ℕ → Asked
 reading kind shown n = asks.Question (the.Reading kind shown (sent n))
@@ -133,16 +123,13 @@ is_of row line words = cond (fits row line) (cond (is_open row) (leb (count row)
 
 -- ---- the row that a line is of
 
-abbrev pub made_as : (List ℕ → Asked) → Outcome → List ℕ → Asked
-made_as make (outcomes.Refused reason) numbers = asks.Refused reason
-made_as make outcomes.Done numbers = make numbers
-
-abbrev pub made : (List ℕ → Asked) → Progress → Asked
-made make w = made_as make w.outcome w.numbers
+abbrev pub made : (List ℕ → Asked) → Result Progress Reason → Asked
+made make (Err reason) = asks.Refused reason
+made make (Ok w) = make w.numbers
 
 -- what a row asks with the arguments of a line, and what is lent with their bytes
 unfoldable pub asked_by : (List ℕ → Asked) → List ℕ → List ℕ → List ℕ → Asked × List ℕ
-asked_by make text line lent = (made make (walked text line (start, lent)).0, (walked text line (start, lent)).1)
+asked_by make text line lent = (made make (walked text line (Ok start, lent)).0, (walked text line (Ok start, lent)).1)
 
 -- a line of no row has a wrong number of words where its first words name a command, and an unknown word otherwise
 abbrev pub refused : Bool → Asked
@@ -155,15 +142,36 @@ tried (row ∷ rows) line words named lent =
     cond (is_of row.text line words) (asked_by row.make row.text line lent)
     (tried rows line words (named || fits row.text line) lent)
 
--- ---- the rows' texts, and what a row asks by its number, the last past the others
+-- ---- the table in code: each row's text, and what its command asks
 
-unfoldable pub texts : List Row → List (List ℕ)
-texts [] = []
-texts (row ∷ rows) = row.text ∷ texts rows
+abbrev pub make_of : Command → List ℕ → Asked
+make_of (code.Fresh kind) = fresh kind
+make_of code.Power = λ n. asks.Event events.Power
+make_of code.Copied = λ n. asks.Event events.Copied
+make_of code.Write = λ n. asks.Event (events.Write (octet n 0) (octet n 1))
+make_of code.Finish = λ n. asks.Event (events.Finish (long n 0) (long n 1) (long n 2))
+make_of code.Wake = λ n. asks.Event events.Wake
+make_of code.Open = λ n. asks.Event (events.Open (octet n 0))
+make_of code.Byte = λ n. asks.Event events.Byte
+make_of code.Close = λ n. asks.Event (events.Close (n at 0))
+make_of code.Ledger = λ n. asks.Ledger
+make_of code.Cal = λ n. asks.Question (the.Cal (n at 0) (n at 1))
+make_of code.WaitMaximum = λ n. asks.Question (the.WaitMaximum (octet n 0) (octet n 1) (octet n 2))
+make_of code.WaitTypical = λ n. asks.Question (the.WaitTypical (octet n 0) (octet n 1) (octet n 2))
+make_of code.Poll = λ n. asks.Question (the.Poll (n at 0) (n at 1))
+make_of code.I2cWrite = λ n. asks.Question (the.BusWrite (At (octet n 0)) (n at 1) (n at 2))
+make_of code.I2cDecode = λ n. asks.Question (the.BusDecode I2c (n at 0) (n at 1))
+make_of code.I2cRead = λ n. asks.Question (the.BusRead (At (octet n 0)) (octet n 1) (n at 2))
+make_of code.SpiWrite = λ n. asks.Question (the.BusWrite Selected (n at 0) (n at 1))
+make_of code.SpiDecode = λ n. asks.Question (the.BusDecode Spi (n at 0) (n at 1))
+make_of code.SpiRead = λ n. asks.Question (the.BusRead Selected (octet n 0) (n at 1))
+make_of code.VisitRead = λ n. asks.Question (the.VisitRead (n at 0) (n at 1))
+make_of code.Day = λ n. asks.Question (the.Day (n at 0) (n at 1) (n at 2) (n at 3))
+make_of code.VisitWrite = λ n. asks.VisitWrite (n at 0) (n at 1)
+make_of (code.Reading kind shown) = reading kind shown
 
-abbrev pub first : List Row → List ℕ → Asked
-first [] = reading Bme280 Rooms
-first (row ∷ rows) = row.make
+abbrev pub as_row : Bor (List ℕ) × Command → Row
+as_row coded = record { text = coded.0.now; make = make_of coded.1 }
 
-unfoldable pub make_at : ℕ → List ℕ → Asked
-make_at number = first (drop number commands)
+abbrev pub as_rows : List (Bor (List ℕ) × Command) → List Row
+as_rows table = map as_row table

@@ -1,24 +1,40 @@
-// What a row's number and the numbers of its arguments ask.
-ghost use Rattle.std.specs.Prelude.{◌≡◌, ◌%◌, ◌<◌};
-ghost use Rattle.kinds.specs.declared.Kind.TheVariants.{Bme280};
+// What a command and the numbers of its arguments ask.
+ghost use Rattle.std.specs.Prelude.{◌≡◌, ◌%◌, ◌≤◌};
 ghost use Rattle.bench_command.specs.Table as table;
 
-use crate::arguments::{Outcome, Progress};
-use crate::{Asked, Question, Sent, Shown};
+use crate::arguments::MOST;
+use crate::{Asked, Question, Sent, Shown, Words};
 use bus::{Bus, Device};
 use kinds::Kind;
 use machine::Event;
 
-// What a row asks, where all its arguments were read.
-pub fn asked(row: usize, w: Progress) -> Asked
-    ensures { result ≡ table.made (table.make_at row) w }
-{
-    let outcome = w.outcome;
-    let numbers = w.numbers;
-    if let Outcome::Refused(reason) = outcome {
-        return Asked::Refused(reason);
-    }
-    command(row, numbers)
+// The commands.
+#[derive(Clone, Copy)]
+pub(crate) enum Command {
+    Fresh(Kind),
+    Power,
+    Copied,
+    Write,
+    Finish,
+    Wake,
+    Open,
+    Byte,
+    Close,
+    Ledger,
+    Cal,
+    WaitMaximum,
+    WaitTypical,
+    Poll,
+    I2cWrite,
+    I2cDecode,
+    I2cRead,
+    SpiWrite,
+    SpiDecode,
+    SpiRead,
+    VisitRead,
+    Day,
+    VisitWrite,
+    Reading(Kind, Shown),
 }
 
 // A byte that was read as a number.
@@ -35,152 +51,120 @@ fn count(n: usize) -> u32
     (n % 4294967296) as u32
 }
 
+// The words of a reading, of which the first stands at a place.
+#[tactic(auto, unfolding(crate::specs::Table::words))]
+fn words(n: [usize; MOST], at: usize) -> Words
+    requires { at ≤ 10 }
+    ensures { result ≡ table.words n at }
+{
+    Words {
+        one: n[at],
+        two: n[at + 1],
+        raw: n[at + 2],
+        t: octet(n[at + 3]),
+        p: octet(n[at + 4]),
+        h: octet(n[at + 5]),
+    }
+}
+
 // The words of a reading or two.
-fn sent(numbers: [usize; 16]) -> Sent
-    ensures { result ≡ table.sent numbers }
+#[tactic(auto, unfolding(crate::specs::Table::sent))]
+fn sent(n: [usize; MOST]) -> Sent
+    ensures { result ≡ table.sent n }
 {
     Sent {
-        one: numbers[0],
-        two: numbers[1],
-        raw: numbers[2],
-        t: octet(numbers[3]),
-        p: octet(numbers[4]),
-        h: octet(numbers[5]),
-        second_one: numbers[6],
-        second_two: numbers[7],
-        second_raw: numbers[8],
-        second_t: octet(numbers[9]),
-        second_p: octet(numbers[10]),
-        second_h: octet(numbers[11]),
-        temperature: count(numbers[12]),
-        pressure: count(numbers[13]),
-        humidity: count(numbers[14]),
+        first: words(n, 0),
+        second: words(n, 6),
+        temperature: count(n[12]),
+        pressure: count(n[13]),
+        humidity: count(n[14]),
     }
 }
 
-// What a row asks, with its numbers.
-fn command(row: usize, n: [usize; 16]) -> Asked
-    ensures { result ≡ table.make_at row n }
+// What a command asks, with its numbers.
+pub(crate) fn asked(command: Command, n: [usize; MOST]) -> Asked
+    ensures { result ≡ table.make_of command n }
 {
-    if row < 4 {
-        return Asked::Fresh(kind(row), count(n[0]));
-    }
-    if row < 12 {
-        return Asked::Event(event(row, n));
-    }
-    if row == 12 {
-        return Asked::Ledger;
-    }
-    if row == 26 {
-        return Asked::VisitWrite(n[0], n[1]);
-    }
-    Asked::Question(question(row, n))
-}
-
-// The kind of part of a row for the fresh state.
-fn kind(row: usize) -> Kind
-    requires { row < 4 }
-    ensures { table.make_at row ≡ table.fresh result }
-{
-    match row {
-        0 => Kind::Bme280,
-        1 => Kind::Bmp280,
-        2 => Kind::Bme280,
-        _ => Kind::Bmp280,
-    }
-}
-
-// The event of a row.
-fn event(row: usize, n: [usize; 16]) -> Event
-    requires { (3 < row) × (row < 12) }
-    ensures { Asked.Event result ≡ table.make_at row n }
-{
-    match row {
-        4 => Event::Power,
-        5 => Event::Copied,
-        6 => Event::Write(octet(n[0]), octet(n[1])),
-        7 => Event::Finish(count(n[0]), count(n[1]), count(n[2])),
-        _ => later_event(row, n),
-    }
-}
-
-// The event of a row, after a conversion's end.
-fn later_event(row: usize, n: [usize; 16]) -> Event
-    requires { (7 < row) × (row < 12) }
-    ensures { Asked.Event result ≡ table.make_at row n }
-{
-    match row {
-        8 => Event::Wake,
-        9 => Event::Open(octet(n[0])),
-        10 => Event::Byte,
-        _ => Event::Close(n[0]),
-    }
-}
-
-// The question of a row.
-fn question(row: usize, n: [usize; 16]) -> Question
-    requires { (12 < row) × (row ≡ 26 → ⊥) }
-    ensures { Asked.Question result ≡ table.make_at row n }
-{
-    if row == 13 {
-        return Question::Cal(n[0], n[1]);
-    }
-    if row == 14 {
-        return Question::WaitMaximum(octet(n[0]), octet(n[1]), octet(n[2]));
-    }
-    if row == 15 {
-        return Question::WaitTypical(octet(n[0]), octet(n[1]), octet(n[2]));
-    }
-    if row == 16 {
-        return Question::Poll(n[0], n[1]);
-    }
-    if row < 23 {
-        return bus_question(row, n);
-    }
-    if row == 23 {
-        return Question::VisitRead(n[0], n[1]);
-    }
-    if row == 24 {
-        return Question::Day(n[0], n[1], n[2], n[3]);
-    }
-    if row == 25 {
-        return Question::Reading(Kind::Bmp280, Shown::Comp, sent(n));
-    }
-    Question::Reading(Kind::Bme280, shown(row), sent(n))
-}
-
-// The question of a row for a bus.
-fn bus_question(row: usize, n: [usize; 16]) -> Question
-    requires { (16 < row) × (row < 23) }
-    ensures { Asked.Question result ≡ table.make_at row n }
-{
-    if row == 17 {
-        return Question::BusWrite(Device::At(octet(n[0])), n[1], n[2]);
-    }
-    if row == 18 {
-        return Question::BusDecode(Bus::I2c, n[0], n[1]);
-    }
-    if row == 19 {
-        return Question::BusRead(Device::At(octet(n[0])), octet(n[1]), n[2]);
-    }
-    if row == 20 {
-        return Question::BusWrite(Device::Selected, n[0], n[1]);
-    }
-    if row == 21 {
-        return Question::BusDecode(Bus::Spi, n[0], n[1]);
-    }
-    Question::BusRead(Device::Selected, octet(n[0]), n[1])
-}
-
-// What a row shows of a reading.
-fn shown(row: usize) -> Shown
-    requires { 26 < row }
-    ensures { table.make_at row ≡ table.reading Bme280 result }
-{
-    match row {
-        27 => Shown::Comp,
-        28 => Shown::Point,
-        29 => Shown::Cells,
-        _ => Shown::Rooms,
+    match command {
+        Command::Fresh(kind) => Asked::Fresh {
+            kind,
+            begun: count(n[0]),
+        },
+        Command::Ledger => Asked::Ledger,
+        Command::VisitWrite => Asked::VisitWrite {
+            room: n[0],
+            steps: n[1],
+        },
+        Command::Power => Asked::Event(Event::Power),
+        Command::Copied => Asked::Event(Event::Copied),
+        Command::Write => Asked::Event(Event::Write(octet(n[0]), octet(n[1]))),
+        Command::Finish => Asked::Event(Event::Finish(count(n[0]), count(n[1]), count(n[2]))),
+        Command::Wake => Asked::Event(Event::Wake),
+        Command::Open => Asked::Event(Event::Open(octet(n[0]))),
+        Command::Byte => Asked::Event(Event::Byte),
+        Command::Close => Asked::Event(Event::Close(n[0])),
+        Command::Cal => Asked::Question(Question::Cal {
+            one: n[0],
+            two: n[1],
+        }),
+        Command::WaitMaximum => Asked::Question(Question::WaitMaximum {
+            t: octet(n[0]),
+            p: octet(n[1]),
+            h: octet(n[2]),
+        }),
+        Command::WaitTypical => Asked::Question(Question::WaitTypical {
+            t: octet(n[0]),
+            p: octet(n[1]),
+            h: octet(n[2]),
+        }),
+        Command::Poll => Asked::Question(Question::Poll {
+            allowance: n[0],
+            status: n[1],
+        }),
+        Command::I2cWrite => Asked::Question(Question::BusWrite {
+            device: Device::At(octet(n[0])),
+            pairs: n[1],
+            room: n[2],
+        }),
+        Command::I2cDecode => Asked::Question(Question::BusDecode {
+            bus: Bus::I2c,
+            message: n[0],
+            room: n[1],
+        }),
+        Command::I2cRead => Asked::Question(Question::BusRead {
+            device: Device::At(octet(n[0])),
+            register: octet(n[1]),
+            room: n[2],
+        }),
+        Command::SpiWrite => Asked::Question(Question::BusWrite {
+            device: Device::Selected,
+            pairs: n[0],
+            room: n[1],
+        }),
+        Command::SpiDecode => Asked::Question(Question::BusDecode {
+            bus: Bus::Spi,
+            message: n[0],
+            room: n[1],
+        }),
+        Command::SpiRead => Asked::Question(Question::BusRead {
+            device: Device::Selected,
+            register: octet(n[0]),
+            room: n[1],
+        }),
+        Command::VisitRead => Asked::Question(Question::VisitRead {
+            record: n[0],
+            room: n[1],
+        }),
+        Command::Day => Asked::Question(Question::Day {
+            one: n[0],
+            two: n[1],
+            readings: n[2],
+            room: n[3],
+        }),
+        Command::Reading(kind, shown) => Asked::Question(Question::Reading {
+            kind,
+            shown,
+            sent: sent(n),
+        }),
     }
 }

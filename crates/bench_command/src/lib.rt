@@ -15,24 +15,22 @@ mod rows;
 mod table;
 mod text;
 
-// The words of one reading or two in a line, zeros for what it lacks.
+// The words of one reading in a line: the lengths of the two blocks and of the data, and the three codes.
 #[derive(Clone, Copy)]
-pub struct Sent {
-    // Of the first: the lengths of the two blocks and of the data, and the three codes.
+pub struct Words {
     pub one: usize,
     pub two: usize,
     pub raw: usize,
     pub t: u8,
     pub p: u8,
     pub h: u8,
-    // Of the second.
-    pub second_one: usize,
-    pub second_two: usize,
-    pub second_raw: usize,
-    pub second_t: u8,
-    pub second_p: u8,
-    pub second_h: u8,
-    // The tolerances by which the two are compared.
+}
+
+// The words of one reading or two in a line, zeros for what it lacks, and the tolerances by which the two are compared.
+#[derive(Clone, Copy)]
+pub struct Sent {
+    pub first: Words,
+    pub second: Words,
     pub temperature: u32,
     pub pressure: u32,
     pub humidity: u32,
@@ -47,27 +45,58 @@ pub enum Shown {
     Rooms,
 }
 
-// What the machine has no part in, with its values. Bytes are laid one after another where they are lent, and the question has their lengths.
+// What the machine has no part in, with its values. Bytes are laid one after another where they are lent, and the question has their lengths: of the
+// two blocks, of the readings, of a status, of pairs, of a message, of a record. The room is how long the lent buffer or list is.
 #[derive(Clone, Copy)]
 pub enum Question {
-    // The lengths of the two blocks.
-    Cal(usize, usize),
-    // The kind of part, and what is shown.
-    Reading(Kind, Shown, Sent),
-    WaitMaximum(u8, u8, u8),
-    WaitTypical(u8, u8, u8),
-    // The allowance, and the length of the status.
-    Poll(usize, usize),
-    // The device, the length of the pairs, and that of the lent buffer.
-    BusWrite(Device, usize, usize),
-    // The bus, the length of the message, and that of the lent buffer.
-    BusDecode(Bus, usize, usize),
-    // The device, the register, and the length of the lent buffer.
-    BusRead(Device, u8, usize),
-    // The length of the record, and how many steps the lent list has.
-    VisitRead(usize, usize),
-    // The lengths of the two blocks and of the readings, and how many answers the lent list has.
-    Day(usize, usize, usize, usize),
+    Cal {
+        one: usize,
+        two: usize,
+    },
+    Reading {
+        kind: Kind,
+        shown: Shown,
+        sent: Sent,
+    },
+    WaitMaximum {
+        t: u8,
+        p: u8,
+        h: u8,
+    },
+    WaitTypical {
+        t: u8,
+        p: u8,
+        h: u8,
+    },
+    Poll {
+        allowance: usize,
+        status: usize,
+    },
+    BusWrite {
+        device: Device,
+        pairs: usize,
+        room: usize,
+    },
+    BusDecode {
+        bus: Bus,
+        message: usize,
+        room: usize,
+    },
+    BusRead {
+        device: Device,
+        register: u8,
+        room: usize,
+    },
+    VisitRead {
+        record: usize,
+        room: usize,
+    },
+    Day {
+        one: usize,
+        two: usize,
+        readings: usize,
+        room: usize,
+    },
 }
 
 // What a line asks: nothing where it is empty, nothing that can be answered, a question, a visit written, or something of the machine.
@@ -77,9 +106,9 @@ pub enum Asked {
     Refused(Reason),
     Question(Question),
     // The length of the lent buffer, and the place in the line after which its other words are the steps. None of them is read yet.
-    VisitWrite(usize, usize),
+    VisitWrite { room: usize, steps: usize },
     // The kind of part, and the number of conversions that came before.
-    Fresh(Kind, u32),
+    Fresh { kind: Kind, begun: u32 },
     Event(Event),
     Ledger,
 }
@@ -89,49 +118,15 @@ pub const LONGEST_LINE: usize = 4096;
 
 // What a line asks. The bytes among its words are laid where they are lent, as far as the line is read.
 // A line that is too long is refused first, then an unknown word, then a wrong number of words, and then the arguments from left to right.
+#[tactic(auto, unfolding(crate::specs::Commands::asked))]
 pub fn read(line: &[u8], lent: &mut [u8]) -> Asked
     ensures { (result, lent.new) ≡ known.asked line.now lent.old }
 {
     if LONGEST_LINE < line.len() {
         return Asked::Refused(Reason::TooLong);
     }
-    if line.len() == 0 {
+    if line.is_empty() {
         return Asked::Nothing;
     }
-    // The commands, in the order of their numbers: B stands for bytes, C for a code, D for a decimal, L for a buffer's length, P for a pair, and S at the end for any words.
-    table::find(
-        b"fresh;\
-        fresh bmp;\
-        fresh D;\
-        fresh bmp D;\
-        power;\
-        copied;\
-        write P P;\
-        finish D D D;\
-        wake;\
-        open P;\
-        byte;\
-        close L;\
-        ledger;\
-        cal B B;\
-        wait max C C C;\
-        wait typ C C C;\
-        poll D B;\
-        i2c write P B L;\
-        i2c decode B L;\
-        i2c read P P L;\
-        spi write B L;\
-        spi decode B L;\
-        spi read P L;\
-        visit read B L;\
-        day B B B L;\
-        bmp B B B C C C;\
-        visit write LS;\
-        comp B B B C C C;\
-        point B B B C C C;\
-        cells B B B C C C;\
-        rooms B B B C C C B B B C C C D D D;",
-        line,
-        lent,
-    )
+    table::find(line, lent)
 }

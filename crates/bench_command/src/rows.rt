@@ -9,43 +9,33 @@ use crate::text;
 pub fn is_argument(character: u8) -> bool
     ensures { result ≡ is_argument character }
 {
-    if character < b'A' {
-        return false;
-    }
-    character <= b'Z'
+    character.is_ascii_uppercase()
 }
 
 // Whether the words of a row, up to its arguments, are the first words of a line, as far as the line goes.
 pub fn fits(row: &[u8], line: &[u8]) -> bool
     ensures { result ≡ table.fits row.now line.now }
 {
-    let mut i = 0;
-    while i < row.len() {
-        if is_argument(row[i]) {
+    for (i, &character) in row.iter().enumerate() {
+        if is_argument(character) {
             return true;
         }
         if line.len() <= i {
-            return row[i] == b' ';
+            return character == b' ';
         }
-        if row[i] != line[i] {
+        if character != line[i] {
             return false;
         }
-        i += 1;
     }
-    if line.len() <= i {
-        return true;
-    }
-    line[i] == b' '
+    line.len() <= row.len() || line[row.len()] == b' '
 }
 
 // Whether any words may follow those of a row: it ends in an S.
+#[tactic(auto, using(crate::proofs::Opening::is, crate::proofs::Opening::is_not, crate::proofs::Opening::is_empty))]
 fn is_open(row: &[u8]) -> bool
     ensures { result ≡ table.is_open row.now }
 {
-    if row.len() == 0 {
-        return false;
-    }
-    row[row.len() - 1] == b'S'
+    matches!(row, [.., b'S'])
 }
 
 // Whether a line of so many words is of a row: its first words are the row's, and it has as many words, or more where the row is open.
@@ -55,8 +45,10 @@ pub fn is_of(row: &[u8], line: &[u8], words: usize) -> bool
     if !fits(row, line) {
         return false;
     }
+    let count = text::count(row);
     if is_open(row) {
-        return text::count(row) <= words;
+        count <= words
+    } else {
+        count == words
     }
-    text::count(row) == words
 }

@@ -1,34 +1,22 @@
 // Places in a text.
-ghost use Rattle.std.specs.Prelude.{◌≡◌, ◌+◌, length, drop};
+ghost use Rattle.std.specs.Prelude.{◌≡◌, ◌≤◌, length};
+ghost use Rattle.std.specs.List.{count_by};
 ghost use Rattle.bench_command.specs.Words as words;
 
 // How many words a text has: one more than spaces.
+#[tactic(auto, using(crate::proofs::Counting::counted))]
 pub fn count(text: &[u8]) -> usize
     ensures { result ≡ words.count text.now }
 {
-    let mut words = 1;
-    let mut i = 0;
-    while i < text.len() {
-        if text[i] == b' ' {
-            words += 1;
-        }
-        i += 1;
-    }
-    words
+    spaces(text) + 1
 }
 
-// The place where the row that goes on at a place ends: that of its semicolon, or the text's end.
-pub fn row_end(text: &[u8], from: usize) -> usize
-    ensures { result ≡ from + length (words.row (drop from text.now)) }
+// How many spaces stand in a text.
+fn spaces(text: &[u8]) -> usize
+    ensures value { result ≡ count_by words.is_space text.now }
+    ensures bound { result ≤ length text.now }
 {
-    let mut i = from;
-    while i < text.len() {
-        if text[i] == b';' {
-            return i;
-        }
-        i += 1;
-    }
-    i
+    text.iter().filter(|&&byte| byte == b' ').count()
 }
 
 // The place after one, and past the text's end the same.

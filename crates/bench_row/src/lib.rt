@@ -1,38 +1,37 @@
 // A row: a form, which is a text with a mark for each number, and the numbers that it is filled with.
 #![tactic(auto)]
 
-ghost use Rattle.std.specs.Prelude.{◌≡◌, ◌+◌, ◌≤◌, ◌<◌, pos, get_or};
+ghost use Rattle.std.specs.Prelude.{◌≡◌, ◌+◌, ◌≤◌, ◌<◌, get_or};
 ghost use Rattle.bench_page.specs.Page.{◌▹◌};
 ghost use Rattle.bench_row.specs.Row as row;
+
+mod marks;
+
+use marks::Marked;
 
 // Writes a form with its numbers: '#' marks one shown in decimal, and '@' a byte shown as two hex digits.
 pub fn fill(form: &[u8], numbers: &[u64], out: &mut [u8], at: usize) -> usize
     ensures { (out.new, result) ≡ (out.old, at) ▹ row.filled form.now numbers.now }
 {
-    let mut next = at;
-    let mut i = 0;
-    let mut k = 0;
-    while i < form.len() {
-        let byte = form[i];
-        next = write_place(byte, number_at(numbers, k), out, next);
-        k = after(byte, k);
-        i += 1;
-    }
-    next
+    fill_marks(form, numbers, 0, out, at)
 }
 
 // The same with signed numbers: '#' marks one.
 pub fn fill_signed(form: &[u8], numbers: &[i32], out: &mut [u8], at: usize) -> usize
     ensures { (out.new, result) ≡ (out.old, at) ▹ row.filled_signed form.now numbers.now }
 {
+    fill_marks(form, numbers, 0, out, at)
+}
+
+// Writes a form with numbers of either kind; the number of a mark past the last is given.
+fn fill_marks<N: Marked>(form: &[u8], numbers: &[N], past: N, out: &mut [u8], at: usize) -> usize
+    ensures { (out.new, result) ≡ (out.old, at) ▹ row.filled_from N.shown past form.now numbers.now 0 }
+{
     let mut next = at;
-    let mut i = 0;
     let mut k = 0;
-    while i < form.len() {
-        let byte = form[i];
-        next = write_signed_place(byte, signed_at(numbers, k), out, next);
+    for &byte in form {
+        next = number_at(numbers, k, past).write(byte, out, next);
         k = after(byte, k);
-        i += 1;
     }
     next
 }
@@ -45,18 +44,11 @@ pub fn write_buffer(lent: &[u8], out: &mut [u8], at: usize) -> usize
     bench_page::write_bytes(lent, out, next)
 }
 
-// The number of a mark; past the last 0.
-fn number_at(numbers: &[u64], k: usize) -> u64
-    ensures { result ≡ get_or numbers.now k 0 }
+// The number of a mark, and what is given past the last.
+fn number_at<N: Copy>(numbers: &[N], k: usize, past: N) -> N
+    ensures { result ≡ get_or numbers.now k past }
 {
-    if k < numbers.len() { numbers[k] } else { 0 }
-}
-
-// The same of signed numbers.
-fn signed_at(numbers: &[i32], k: usize) -> i32
-    ensures { result ≡ get_or numbers.now k (pos 0) }
-{
-    if k < numbers.len() { numbers[k] } else { 0 }
+    numbers.get(k).copied().unwrap_or(past)
 }
 
 // The place of the number that the next mark after a byte shows.
@@ -64,31 +56,8 @@ fn after(byte: u8, k: usize) -> usize
     requires { k < 0xFFFFFFFFFFFFFFFF }
     ensures { (result ≡ row.after byte k) × (result ≤ k + 1) }
 {
-    if byte == b'#' {
-        return k + 1;
+    match byte {
+        b'#' | b'@' => k + 1,
+        _ => k,
     }
-    if byte == b'@' { k + 1 } else { k }
-}
-
-// Writes what stands for one byte of a form: a number at its mark, and any other byte as it is.
-fn write_place(byte: u8, n: u64, out: &mut [u8], at: usize) -> usize
-    ensures { (out.new, result) ≡ (out.old, at) ▹ row.place byte n }
-{
-    if byte == b'#' {
-        return bench_page::write_decimal(n, out, at);
-    }
-    if byte == b'@' {
-        return bench_page::write_pair((n % 256) as u8, out, at);
-    }
-    bench_page::write_byte(byte, out, at)
-}
-
-// The same of a form with signed numbers.
-fn write_signed_place(byte: u8, z: i32, out: &mut [u8], at: usize) -> usize
-    ensures { (out.new, result) ≡ (out.old, at) ▹ row.signed_place byte z }
-{
-    if byte == b'#' {
-        return bench_page::write_signed(z, out, at);
-    }
-    bench_page::write_byte(byte, out, at)
 }

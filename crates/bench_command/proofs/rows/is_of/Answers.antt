@@ -9,8 +9,8 @@ returns-then-not-fits c = search cases
 
 pub returns-then-is_open : goal.returns-then-is_open
 unfolding is_of
-returns-then-is_open c = rw c.count.ensures (search cases)
+returns-then-is_open c = rw c.count-count.ensures (search cases)
 
-pub returns : goal.returns
+pub returns-else-is_open : goal.returns-else-is_open
 unfolding is_of
-returns c = rw c.count-2.ensures (search cases)
+returns-else-is_open c = rw c.count-count.ensures (search cases)

@@ -1,40 +1,25 @@
--- The loop keeps that the rows still to come are the commands still to be tried, and that trying them makes what trying all does.
-use native.Mathlib.Omega.{arith}
-use mathlib.Core.Path.{refl, sym, ◌∙◌}
-use lib.ListN.{drop}
-use Rattle.bench_command.specs.Table.{commands}
-use Rattle.bench_command.proofs.Splitting.{within, later, none_left}
-use Rattle.bench_command.proofs.Trying.{asks, texts-on, goes_on, over}
+-- The row that the line is of, or the next.
+use Rattle.std.proofs.Common.{arith, rules, ◌≡◌, ◌<◌, ◌≤◌, length, sym, ◌∙◌}
+use Rattle.bench_command.proofs.Trying.{asks, goes_on, over}
 use Rattle.bench_command.proofs.table.find.Goals as goal
 
-pub loop-at-init : goal.loop-at-init
-loop-at-init c = (omega arith, refl, c.requires, rw c.count-words.ensures)
+pub loop-row-init : goal.loop-row-init
+loop-row-init c = rw (c.table.ensures, c.count-words.ensures)
 
 pub returns-then-is_of : goal.returns-then-is_of
 returns-then-is_of c =
-    c.ask.ensures
-    ∙ asks c.args.table.now c.loop-at.at c.loop-at-test.true c.row_end-end.result c.row_end-end.ensures c.loop-at.number c.loop-at.invariant.2 _ _ _ _ (sym c.if-is_of.true ∙ c.is_of.ensures)
-    ∙ c.loop-at.invariant.3
+    let e : length c.table.result ≡ 31 = search rules in
+    let h : c.loop-row.row-index < length c.table.result = omega arith in
+    c.ask.ensures ∙ asks _ _ _ _ _ _ _ h (sym c.if-is_of.true ∙ c.is_of.ensures) ∙ c.loop-row.invariant
 
-pub slice_bounds-row-end : goal.slice_bounds-row-end
-slice_bounds-row-end c = omega (arith, within c.args.table.now c.loop-at.at c.loop-at-test.true c.row_end-end.result c.row_end-end.ensures)
-
-pub loop-at-smaller : goal.loop-at-smaller
-loop-at-smaller c =
-    omega (arith, later c.args.table.now c.loop-at.at c.loop-at-test.true c.row_end-end.result c.row_end-end.ensures c.past-at.result c.past-at.ensures)
-
-pub loop-at-preserved : goal.loop-at-preserved
-loop-at-preserved c =
-    let no = sym c.if-is_of.false ∙ c.is_of.ensures in (
-      omega (arith, later c.args.table.now c.loop-at.at c.loop-at-test.true c.row_end-end.result c.row_end-end.ensures c.past-at.result c.past-at.ensures),
-      c.loop-at.invariant.1,
-      texts-on c.args.table.now c.loop-at.at c.loop-at-test.true c.row_end-end.result c.row_end-end.ensures c.loop-at.number c.loop-at.invariant.2 c.past-at.result c.past-at.ensures,
-      rw c.fits-named.ensures
-          (sym (goes_on c.args.table.now c.loop-at.at c.loop-at-test.true c.row_end-end.result c.row_end-end.ensures c.loop-at.number c.loop-at.invariant.2 c.past-at.result c.past-at.ensures _ _ _ _ no)
-          ∙ c.loop-at.invariant.3),
-    )
+pub loop-row-preserved : goal.loop-row-preserved
+loop-row-preserved c =
+    let e : length c.table.result ≡ 31 = search rules in
+    let h : c.loop-row.row-index < length c.table.result = omega arith in
+    rw c.fits-named.ensures (goes_on _ _ _ _ _ _ _ h (sym c.if-is_of.false ∙ c.is_of.ensures) ∙ c.loop-row.invariant)
 
 pub returns : goal.returns
 returns c =
-    rw c.refuse.ensures
-    (over (drop c.loop-at.number commands) _ _ _ _ (none_left c.args.table.now c.loop-at.at c.loop-at-test.false ∙ c.loop-at.invariant.2) ∙ c.loop-at.invariant.3)
+    let e : length c.table.result ≡ 31 = search rules in
+    let h : length c.table.result ≤ c.loop-row.row-index = omega arith in
+    rw c.refuse.ensures (over _ _ _ _ _ _ h ∙ c.loop-row.invariant)

@@ -1,8 +1,0 @@
--- The cases of the definition.
-use Rattle.bench_command.proofs.arguments.taken.Goals as goal
-
-pub returns-in-Refused : goal.returns-in-Refused
-returns-in-Refused c = rw c.in-Refused.is
-
-pub returns-in-Read : goal.returns-in-Read
-returns-in-Read c = rw (c.in-Read.is, c.next.ensures, c.put-more.ensures)

@@ -1,9 +1,0 @@
--- The tests of the definition; one byte is a text of one.
-use borrow.Author.Tests.{ne_eqb}
-use Rattle.bench_page.specs.Page.{written}
-use Rattle.bench_row.proofs.write_place.Goals as goal
-
-pub returns : goal.returns
-unfolding written
-returns c =
-    rw (ne_eqb _ _ c.if-byte-eq35.false, ne_eqb _ _ c.if-byte-eq64.false, c.write_byte.ensures)
