@@ -1,12 +1,14 @@
 -- The part of a text before its first mark is a front of it, and what stands after the mark is the rest.
-use Prim.Native.Nat.{ℕ, suc, ◌+◌, ◌≤◌}
+use Prim.Native.Nat.{ℕ, zero, suc, ◌+◌, ◌≤◌, ◌<◌}
 use native.Mathlib.Omega.{arith}
 use native.Mathlib.Numerals.{add-one}
 use mathlib.Core.Bool.{Bool, true, false, cond}
 use mathlib.Core.List.{List, [], ◌∷◌}
 use mathlib.Core.Path.{◌≡◌, refl, sym, ap, ◌∙◌}
+use borrow.Author.Tests.{eq-eqb, ne_eqb}
 use lib.Dec.{eqb}
 use lib.ListN.{length, get_or, take, drop, drop_of_length-le}
+use Rattle.std.specs.Prelude.{◌≢◌}
 use Rattle.laws.specs.Choices.{pick}
 use Rattle.bench_step.specs.Reading.{before, after}
 
@@ -44,8 +46,14 @@ module _ (mark end : ℕ) (s : List ℕ) (e : end ≡ length (before mark s)) wh
       let m : length s ≤ end + 1 = omega arith in
       drop_of_length-le s h ∙ sym (drop_of_length-le s m) ∙ after-mark
 
--- ---- a text of no characters has no first
+-- ---- the place that was found
 
-pub no-first : (s : List ℕ) → length s ≡ 0 → 0 ≡ get_or s 0 0
-no-first [] h = refl
-no-first (byte ∷ s) h = absurd (omega arith)
+pub place-is : (mark : ℕ) (s : List ℕ) (end : ℕ) → end ≤ length s → ((k : ℕ) → k < end → get_or s k 0 ≢ mark) → (end < length s → get_or s end 0 ≡ mark)
+    → end ≡ length (before mark s)
+unfolding before
+place-is mark [] zero h none found = refl
+place-is mark [] (suc end) h none found = absurd (omega arith)
+place-is mark (byte ∷ s) zero h none found = rw (eq-eqb byte mark (found (omega arith)))
+place-is mark (byte ∷ s) (suc end) h none found =
+    rw (ne_eqb byte mark (none 0 (omega arith)))
+    (ap suc (place-is mark s end (omega arith) (λ k l. none (suc k) (omega arith)) (λ l. found (omega arith))))

@@ -5,20 +5,20 @@ use Rattle.bench_page.specs.Digits as spelt
 use Rattle.bench_row.specs.Row.{filled_from}
 use Rattle.bench_numbers.specs.Words.{word}
 use Rattle.bench_numbers.specs.Reading as numbers
-use Rattle.visit.specs.declared.Answer.TheVariants.{Value, Missing}
-use Rattle.visit.specs.declared.Step.TheVariants.{Open, Slot, Close, Stray}
+use Rattle.visit.specs.Steps.{value, missing, slot}
+use Rattle.visit.specs.declared.Step.TheVariants.{Open, Close, Stray}
 use Rattle.bench_step.specs.Reading as reading
 use Rattle.bench_step.specs.Showing as showing
 
 pub record Words : Type 0 where
   pub group : reading.step (letters "(") ≡ Open
   pub group-end : reading.step (letters ")") ≡ Close
-  pub dry : reading.step (letters "7:-5:25767233:!10") ≡ Slot 7 (Value 0xFFFFFFFB) (Value 25767233) (Missing 10)
-  pub coldest : reading.step (letters "4294967295:-2147483648:0:0") ≡ Slot 0xFFFFFFFF (Value 0x80000000) (Value 0) (Value 0)
-  pub warmest : reading.step (letters "0:2147483647:4294967295:0102400") ≡ Slot 0 (Value 0x7FFFFFFF) (Value 0xFFFFFFFF) (Value 102400)
-  pub minus-zero : reading.step (letters "0:-0:0:!14") ≡ Slot 0 (Value 0) (Value 0) (Missing 14)
+  pub dry : reading.step (letters "7:-5:25767233:!10") ≡ slot 7 (value 0xFFFFFFFB) (value 25767233) (missing 10)
+  pub coldest : reading.step (letters "4294967295:-2147483648:0:0") ≡ slot 0xFFFFFFFF (value 0x80000000) (value 0) (value 0)
+  pub warmest : reading.step (letters "0:2147483647:4294967295:0102400") ≡ slot 0 (value 0x7FFFFFFF) (value 0xFFFFFFFF) (value 102400)
+  pub minus-zero : reading.step (letters "0:-0:0:!14") ≡ slot 0 (value 0) (value 0) (missing 14)
   -- a number that no missing answer has: the writer refuses it
-  pub missing-none : reading.step (letters "0:!0:!15:!4294967295") ≡ Slot 0 (Missing 1) (Missing 15) (Missing 0xFFFFFFFF)
+  pub missing-none : reading.step (letters "0:!0:!15:!4294967295") ≡ slot 0 (missing 1) (missing 15) (missing 0xFFFFFFFF)
   -- words that are none
   pub no-characters : reading.step [] ≡ Stray
   pub two-brackets : reading.step (letters "((") ≡ Stray
@@ -61,10 +61,10 @@ words-read =
       above-largest = refl;
     }
 
-pub dry-shown : showing.step (Slot 7 (Value 0xFFFFFFFB) (Value 25767233) (Missing 10)) ≡ letters "7:-5:25767233:!10"
+pub dry-shown : showing.step (slot 7 (value 0xFFFFFFFB) (value 25767233) (missing 10)) ≡ letters "7:-5:25767233:!10"
 unfolding showing.step showing.slot filled_from spelt.decimal spelt.spelled
 dry-shown = refl
 
-pub coldest-shown : showing.step (Slot 0xFFFFFFFF (Value 0x80000000) (Missing 12) (Value 102400)) ≡ letters "4294967295:-2147483648:!12:102400"
+pub coldest-shown : showing.step (slot 0xFFFFFFFF (value 0x80000000) (missing 12) (value 102400)) ≡ letters "4294967295:-2147483648:!12:102400"
 unfolding showing.step showing.slot filled_from spelt.decimal spelt.spelled
 coldest-shown = refl

@@ -1,7 +1,7 @@
 -- The word of a step: `(`, `)`, or TIME:T:P:H, each channel its decimal, a temperature with its sign, or `!N` where it is missing.
-use Rattle.std.specs.Prelude.{ℕ, ◌-◌, cond, List, [], ◌∷◌, ◌++◌, ltb}
-use Rattle.visit.specs.declared.Answer.{Answer}
-use Rattle.visit.specs.declared.Answer.TheVariants.{Value, Missing}
+use Rattle.std.specs.Prelude.{ℕ, ◌-◌, cond, List, [], ◌∷◌, ◌++◌, ltb, Ok, Err}
+use Rattle.visit.specs.Steps.{Answer}
+use Rattle.visit.specs.declared.Slot.{Slot as SlotOf}
 use Rattle.visit.specs.declared.Step.{Step}
 use Rattle.visit.specs.declared.Step.TheVariants.{Open, Slot, Close, Stray}
 use Rattle.bench_page.specs.Page.{letters}
@@ -10,23 +10,23 @@ use Rattle.bench_row.specs.Row.{filled}
 
 -- a colon stands before each channel
 abbrev pub amount : Answer → List ℕ
-amount (Value v) = filled (letters ":#") (v ∷ [])
-amount (Missing n) = filled (letters ":!#") (n ∷ [])
+amount (Ok v) = filled (letters ":#") (v ∷ [])
+amount (Err a) = filled (letters ":!#") (a.number ∷ [])
 
 -- by the two's complement
 abbrev pub signed : ℕ → List ℕ
 signed word = cond (ltb word 0x80000000) (filled (letters ":#") (word ∷ [])) (filled (letters ":-#") ((0x100000000 - word) ∷ []))
 
 abbrev pub temperature : Answer → List ℕ
-temperature (Value v) = signed v
-temperature (Missing n) = filled (letters ":!#") (n ∷ [])
+temperature (Ok v) = signed v
+temperature (Err a) = filled (letters ":!#") (a.number ∷ [])
 
-unfoldable pub slot : ℕ → Answer → Answer → Answer → List ℕ
-slot time t p h = spelt.decimal time ++ (temperature t ++ (amount p ++ amount h))
+unfoldable pub slot : SlotOf → List ℕ
+slot s = spelt.decimal s.time ++ (temperature s.temperature ++ (amount s.pressure ++ amount s.humidity))
 
 -- no record gives a stray step
 unfoldable pub step : Step → List ℕ
 step Open = letters "("
-step (Slot time t p h) = slot time t p h
+step (Slot s) = slot s
 step Close = letters ")"
 step Stray = letters "?"

@@ -1,13 +1,13 @@
-// The channels of a slot, by their text: a decimal, or `!` and a number for a missing one.
+// The channels of a slot, by their text: a decimal, or `!` and a number for a missing one; none where the text stands for no channel.
 ghost use Rattle.std.specs.Prelude.{◌≡◌};
 ghost use Rattle.bench_step.specs.Reading as reading;
 
 use crate::parts::first;
 use bench_bytes::rest;
-use visit::Answer;
+use visit::{Absent, Answer};
 
 // A pressure or a humidity.
-pub fn amount(text: &[u8]) -> Answer
+pub fn amount(text: &[u8]) -> Option<Answer>
     ensures { result ≡ reading.amount text.now }
 {
     if first(text) == b'!' {
@@ -17,49 +17,46 @@ pub fn amount(text: &[u8]) -> Answer
 }
 
 // A temperature, with a minus or without.
-pub fn temperature(text: &[u8]) -> Answer
+pub fn temperature(text: &[u8]) -> Option<Answer>
     ensures { result ≡ reading.temperature text.now }
 {
-    let character = first(text);
-    if character == b'!' {
-        return missing(bench_numbers::decimal(rest(text, 1)));
+    match first(text) {
+        b'!' => missing(bench_numbers::decimal(rest(text, 1))),
+        b'-' => below(bench_numbers::decimal(rest(text, 1))),
+        _ => value(bench_numbers::decimal(text), 0x7FFFFFFF),
     }
-    if character == b'-' {
-        return below(bench_numbers::decimal(rest(text, 1)));
-    }
-    value(bench_numbers::decimal(text), 0x7FFFFFFF)
 }
 
 // A missing channel by its number.
 // The number 0 would mean a value in the list of steps, so 1 stands for it: every number outside 10 to 14 is answered alike.
-fn missing(n: usize) -> Answer
+fn missing(n: usize) -> Option<Answer>
     ensures { result ≡ reading.missing n }
 {
     if n == 0 {
-        return Answer::Missing(1);
+        return Some(Err(Absent { number: 1 }));
     }
     if n <= 0xFFFFFFFF {
-        return Answer::Missing(n as u32);
+        return Some(Err(Absent { number: n as u32 }));
     }
-    Answer::Missing(0)
+    None
 }
 
 // A number of at most so much.
-fn value(n: usize, most: u32) -> Answer
+fn value(n: usize, most: u32) -> Option<Answer>
     ensures { result ≡ reading.value n most }
 {
     if n <= most as usize {
-        return Answer::Value(n as u32);
+        return Some(Ok(n as u32));
     }
-    Answer::Missing(0)
+    None
 }
 
 // A number below zero, or zero, by how far it lies from it: its two's complement.
-fn below(n: usize) -> Answer
+fn below(n: usize) -> Option<Answer>
     ensures { result ≡ reading.below n }
 {
     if n <= 0x80000000 {
-        return Answer::Value(((0x100000000 - n) % 0x100000000) as u32);
+        return Some(Ok(((0x100000000 - n) % 0x100000000) as u32));
     }
-    Answer::Missing(0)
+    None
 }

@@ -7,7 +7,7 @@ ghost use Rattle.bench_step.specs.Reading as reading;
 ghost use Rattle.bench_step.specs.Showing as text;
 
 use parts::after;
-use visit::{Answer, Step};
+use visit::{Answer, Slot, Step};
 
 mod channels;
 mod parts;
@@ -23,6 +23,7 @@ pub fn up_to(text: &[u8], mark: u8) -> &[u8]
 
 // The step that a word stands for.
 // A stray one where it stands for none.
+#[tactic(auto, unfolding(crate::specs::Reading::step))]
 pub fn read(word: &[u8]) -> Step
     ensures { result ≡ reading.step word.now }
 {
@@ -33,6 +34,7 @@ pub fn read(word: &[u8]) -> Step
 }
 
 // The slot of a word: four parts with colons between them. Where there are fewer, the last ones are empty, and where there are more, the last has a colon.
+#[tactic(auto, unfolding(crate::specs::Reading::slot_read))]
 fn read_slot(word: &[u8]) -> Step
     ensures { result ≡ reading.slot_read word.now }
 {
@@ -48,30 +50,26 @@ fn read_slot(word: &[u8]) -> Step
 }
 
 // Writes the word of a step.
+#[tactic(auto, unfolding(crate::specs::Showing::step))]
 pub fn write(step: Step, out: &mut [u8], at: usize) -> usize
     ensures { (out.new, result) ≡ (out.old, at) ▹ text.step step }
 {
     match step {
-        Step::Open => return bench_page::write_text(b"(", out, at),
-        Step::Close => return bench_page::write_text(b")", out, at),
-        Step::Stray => return bench_page::write_text(b"?", out, at),
-        Step::Slot {
-            time,
-            temperature,
-            pressure,
-            humidity,
-        } => return write_slot(time, temperature, pressure, humidity, out, at),
+        Step::Open => bench_page::write_text(b"(", out, at),
+        Step::Close => bench_page::write_text(b")", out, at),
+        Step::Stray => bench_page::write_text(b"?", out, at),
+        Step::Slot(slot) => write_slot(slot, out, at),
     }
 }
 
 // Writes a slot: its time, and a colon before each channel.
-fn write_slot(time: u32, t: Answer, p: Answer, h: Answer, out: &mut [u8], at: usize) -> usize
-    ensures { (out.new, result) ≡ (out.old, at) ▹ text.slot time t p h }
+fn write_slot(slot: Slot, out: &mut [u8], at: usize) -> usize
+    ensures { (out.new, result) ≡ (out.old, at) ▹ text.slot slot }
 {
-    let a = bench_page::write_decimal(time as u64, out, at);
-    let b = write_temperature(t, out, a);
-    let c = write_amount(p, out, b);
-    write_amount(h, out, c)
+    let a = bench_page::write_decimal(slot.time as u64, out, at);
+    let b = write_temperature(slot.temperature, out, a);
+    let c = write_amount(slot.pressure, out, b);
+    write_amount(slot.humidity, out, c)
 }
 
 // Writes a pressure or a humidity, or a missing one's number.
@@ -79,8 +77,8 @@ fn write_amount(answer: Answer, out: &mut [u8], at: usize) -> usize
     ensures { (out.new, result) ≡ (out.old, at) ▹ text.amount answer }
 {
     match answer {
-        Answer::Value(v) => bench_row::fill(b":#", &[v as u64], out, at),
-        Answer::Missing(n) => bench_row::fill(b":!#", &[n as u64], out, at),
+        Ok(value) => bench_row::fill(b":#", &[value as u64], out, at),
+        Err(absent) => bench_row::fill(b":!#", &[absent.number as u64], out, at),
     }
 }
 
@@ -89,8 +87,8 @@ fn write_temperature(answer: Answer, out: &mut [u8], at: usize) -> usize
     ensures { (out.new, result) ≡ (out.old, at) ▹ text.temperature answer }
 {
     match answer {
-        Answer::Value(v) => write_signed(v, out, at),
-        Answer::Missing(n) => bench_row::fill(b":!#", &[n as u64], out, at),
+        Ok(word) => write_signed(word, out, at),
+        Err(_) => write_amount(answer, out, at),
     }
 }
 

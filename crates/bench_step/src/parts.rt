@@ -1,19 +1,16 @@
 // The parts of a text, with marks between them.
-ghost use Rattle.std.specs.Prelude.{◌≡◌, length as size, get_or};
+ghost use Rattle.std.specs.Prelude.{◌≡◌, ℕ, ◌<◌, ◌≤◌, ◌≢◌, length as size, get_or, slice_index};
 ghost use Rattle.bench_step.specs.Reading as reading;
 
 // The place of the first mark in a text, or the text's end where there is none.
 pub fn find(text: &[u8], mark: u8) -> usize
-    ensures { result ≡ size (reading.before mark text.now) }
+    ensures within { result ≤ size text.now }
+    ensures before { (k : ℕ) → k < result → slice_index text.now k ≢ mark }
+    ensures found { result < size text.now → slice_index text.now result ≡ mark }
 {
-    let mut i = 0;
-    while i < text.len() {
-        if text[i] == mark {
-            return i;
-        }
-        i += 1;
-    }
-    i
+    text.iter()
+        .position(|&byte| byte == mark)
+        .unwrap_or(text.len())
 }
 
 // What stands in a text after the first mark: nothing where there is none.
@@ -31,5 +28,5 @@ pub fn after(text: &[u8], mark: u8) -> &[u8]
 pub fn first(text: &[u8]) -> u8
     ensures { result ≡ get_or text.now 0 0 }
 {
-    if text.len() == 0 { 0 } else { text[0] }
+    text.first().copied().unwrap_or(0)
 }
