@@ -10,6 +10,8 @@ ghost use Rattle.bench_waiting.specs.Times as times;
 use paper::Refusal;
 use waiting::{Estimate, NeverReady, Ready};
 
+// A command asks for each wait by a name of its own: with the estimate as an argument the same constant would stand at each call instead of here.
+
 // Writes the microseconds that a conversion at three codes takes at most, or the number that refuses them.
 pub fn wait_maximum(t: u8, p: u8, h: u8, out: &mut [u8], at: usize) -> usize
     ensures { (out.new, result) ≡ (out.old, at) ▹ times.wait (waited maximum t p h) }
