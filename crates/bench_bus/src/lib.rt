@@ -8,7 +8,10 @@ ghost use Rattle.bench_page.specs.Page.{◌▹◌};
 ghost use Rattle.bench_lent.specs.Lent.{lent_of};
 ghost use Rattle.bench_bus.specs.Messages as messages;
 
-use bus::{Bus, Decoded, Device, Encoded};
+use bus::{Bus, Decoded, Device};
+use paper::Refusal;
+
+// Each of the three lends a buffer itself: one function that lent it to a closure would have to say in its promise what the closure left there.
 
 // Writes the message of a write, encoded in a buffer of so many bytes.
 pub fn write(device: Device, pairs: &[u8], room: usize, out: &mut [u8], at: usize) -> usize
@@ -41,20 +44,17 @@ pub fn decode(bus: Bus, bytes: &[u8], room: usize, out: &mut [u8], at: usize) ->
 }
 
 // What encoding answers, as decoding answers for a device that has no address.
-fn unaddressed(encoded: Encoded) -> Decoded
+fn unaddressed(encoded: Result<usize, Refusal>) -> Result<Decoded, Refusal>
     ensures { decoded_answer result ≡ encoded_answer encoded }
 {
-    match encoded {
-        Encoded::Bytes(bytes) => Decoded::Pairs {
-            device: Device::Selected,
-            bytes,
-        },
-        Encoded::Refused(number) => Decoded::Refused(number),
-    }
+    encoded.map(|bytes| Decoded {
+        device: Device::Selected,
+        bytes,
+    })
 }
 
 // Writes what decoding answers, and the buffer.
-fn write_decoded(decoded: Decoded, lent: &[u8], out: &mut [u8], at: usize) -> usize
+fn write_decoded(decoded: Result<Decoded, Refusal>, lent: &[u8], out: &mut [u8], at: usize) -> usize
     ensures { (out.new, result) ≡ (out.old, at) ▹ messages.message (decoded_answer decoded, lent.now) }
 {
     let next = write_found(decoded, out, at);
@@ -62,12 +62,12 @@ fn write_decoded(decoded: Decoded, lent: &[u8], out: &mut [u8], at: usize) -> us
 }
 
 // Writes the device and how many bytes its pairs have, or the number that refuses them.
-fn write_found(decoded: Decoded, out: &mut [u8], at: usize) -> usize
+fn write_found(decoded: Result<Decoded, Refusal>, out: &mut [u8], at: usize) -> usize
     ensures { (out.new, result) ≡ (out.old, at) ▹ messages.answered (decoded_answer decoded) }
 {
     match decoded {
-        Decoded::Pairs { device, bytes } => write_device(device, bytes, out, at),
-        Decoded::Refused(number) => bench_page::write_decimal(number as u64, out, at),
+        Ok(Decoded { device, bytes }) => write_device(device, bytes, out, at),
+        Err(why) => bench_page::write_decimal(why.number as u64, out, at),
     }
 }
 

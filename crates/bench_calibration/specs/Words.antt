@@ -1,12 +1,11 @@
 -- A chip's words: `0 T1=.. T2=.. .. H6=..`, or the number that refuses the blocks.
-use Rattle.std.specs.Prelude.{ℕ, List, [], ◌∷◌, ◌++◌, pos}
+use Rattle.std.specs.Prelude.{ℕ, List, [], ◌∷◌, ◌++◌, pos, Ok, Err}
 use Rattle.paper.specs.Numbers.{done}
 use Rattle.calibration.specs.declared.TemperatureWords.{TemperatureWords}
 use Rattle.calibration.specs.declared.PressureWords.{PressureWords}
 use Rattle.calibration.specs.declared.HumidityWords.{HumidityWords}
 use Rattle.calibration.specs.declared.Words.{Words}
-use Rattle.calibration.specs.declared.Calibration.{Calibration}
-use Rattle.calibration.specs.declared.Calibration.TheVariants.{Known, Refused}
+use Rattle.calibration.specs.Calibration.{Calibration}
 use Rattle.bench_page.specs.Page.{letters}
 use Rattle.bench_page.specs.Digits.{decimal}
 use Rattle.bench_row.specs.Row.{filled_signed}
@@ -28,5 +27,5 @@ unfoldable pub words : Words → List ℕ
 words w = temperature w.temperature ++ (pressure w.pressure ++ humidity w.humidity)
 
 unfoldable pub calibration : Calibration → List ℕ
-calibration (Refused number) = decimal number
-calibration (Known w) = words w
+calibration (Ok w) = words w
+calibration (Err r) = decimal r.number

@@ -12,8 +12,8 @@ pub fn write_calibration(known: Calibration, out: &mut [u8], at: usize) -> usize
     ensures { (out.new, result) ≡ (out.old, at) ▹ text.calibration known }
 {
     match known {
-        Calibration::Refused(number) => bench_page::write_decimal(number as u64, out, at),
-        Calibration::Known(w) => write_words(w, out, at),
+        Ok(w) => write_words(w, out, at),
+        Err(refusal) => bench_page::write_decimal(refusal.number as u64, out, at),
     }
 }
 

@@ -36,9 +36,7 @@ said o = record {
   value = o.value;
   whole = o.whole;
   number = o.number;
-  temperature = o.codes.temperature;
-  pressure = o.codes.pressure;
-  humidity = o.codes.humidity;
+  codes = o.codes;
   delivered = o.delivered;
   bytes = o.bytes;
 }

@@ -27,7 +27,10 @@ pub fn event(m: Machine, e: Event, out: &mut [u8], at: usize) -> Answered
 {
     let outcome = machine_step::step(m, e);
     let next = write_said(said_by(outcome), shape_of(e), out, at);
-    with(outcome.machine, next)
+    Answered {
+        machine: outcome.machine,
+        at: next,
+    }
 }
 
 // Writes a line with the ledger and the names of what stands.
@@ -45,13 +48,6 @@ pub fn fresh(kind: Kind, n: u32, out: &mut [u8], at: usize) -> Answered
         machine: machine_start::fresh_after(kind, n),
         at: write_done(out, at),
     }
-}
-
-// A machine and the page's next place.
-fn with(machine: Machine, at: usize) -> Answered
-    ensures { (result.machine ≡ machine) × (result.at ≡ at) }
-{
-    Answered { machine, at }
 }
 
 // Writes a line with what an outcome says.
@@ -88,9 +84,7 @@ fn said_by(outcome: Outcome) -> Said
         value: outcome.value,
         whole: outcome.whole,
         number: outcome.number,
-        temperature: outcome.codes.temperature,
-        pressure: outcome.codes.pressure,
-        humidity: outcome.codes.humidity,
+        codes: outcome.codes,
         delivered: outcome.delivered,
         bytes,
     }
@@ -101,13 +95,8 @@ fn shape_of(e: Event) -> Shape
     ensures { result ≡ outcomes.shape e }
 {
     match e {
-        Event::Power => Shape::Number,
-        Event::Copied => Shape::Number,
-        Event::Write(_, _) => Shape::Number,
-        Event::Finish(_, _, _) => Shape::Number,
-        Event::Wake => Shape::Number,
-        Event::Open(_) => Shape::Number,
         Event::Byte => Shape::Byte,
         Event::Close(length) => Shape::Close(length),
+        _ => Shape::Number,
     }
 }

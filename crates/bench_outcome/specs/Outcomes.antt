@@ -27,7 +27,7 @@ unfoldable pub burst : Said → List ℕ
 burst s =
     whole s.whole
     ++ filled (letters " n=# codes=#,#,# before=#")
-    (s.number ∷ s.temperature ∷ s.pressure ∷ s.humidity ∷ bit s.delivered ∷ [])
+    (s.number ∷ s.codes.temperature ∷ s.codes.pressure ∷ s.codes.humidity ∷ bit s.delivered ∷ [])
 
 abbrev pub closing : Said → List ℕ
 closing s = cond (eqb s.answer done) (burst s) (decimal s.answer)

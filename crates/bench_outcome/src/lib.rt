@@ -7,7 +7,7 @@ ghost use Rattle.bench_row.specs.Row.{buffer};
 ghost use Rattle.bench_outcome.specs.Outcomes as text;
 
 use bench_bytes::front;
-use machine::Tally;
+use machine::{Codes, Tally};
 
 // What an outcome says beside the machine.
 #[derive(Clone, Copy)]
@@ -16,9 +16,7 @@ pub struct Said {
     pub value: u8,
     pub whole: bool,
     pub number: u32,
-    pub temperature: u8,
-    pub pressure: u8,
-    pub humidity: u8,
+    pub codes: Codes,
     pub delivered: bool,
     pub bytes: [u8; 8],
 }
@@ -65,9 +63,9 @@ fn write_closing(said: Said, out: &mut [u8], at: usize) -> usize
             b" n=# codes=#,#,# before=#",
             &[
                 said.number as u64,
-                said.temperature as u64,
-                said.pressure as u64,
-                said.humidity as u64,
+                said.codes.temperature as u64,
+                said.codes.pressure as u64,
+                said.codes.humidity as u64,
                 said.delivered as u64,
             ],
             out,

@@ -1,7 +1,7 @@
 -- What a question is answered, but for the newline. The bytes of its words are laid one after another.
 use Rattle.std.specs.Prelude.{ℕ, List, take, drop}
 use Rattle.kinds.specs.declared.Kind.{Kind}
-use Rattle.compensation.specs.declared.Answer.{Answer}
+use Rattle.compensation.specs.Compensation.{Answer}
 use Rattle.compensation_kinds.specs.Kinds.{compensated_by}
 use Rattle.rooms.specs.declared.Tolerances.{Tolerances}
 use Rattle.rooms.specs.declared.Verdicts.{Verdicts}

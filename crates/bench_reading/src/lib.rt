@@ -6,7 +6,7 @@ ghost use Rattle.bench_page.specs.Page.{◌▹◌};
 ghost use Rattle.bench_reading.specs.Reading as text;
 
 use compensation::{Answer, Reading};
-use formula::{ChannelAnswer, TemperatureAnswer};
+use formula::{ChannelAnswer, Temperature, TemperatureAnswer};
 
 // Writes the words of two calibration blocks, or the number that refuses them.
 pub fn cal(one: &[u8], two: &[u8], out: &mut [u8], at: usize) -> usize
@@ -20,8 +20,8 @@ pub fn comp(answer: Answer, out: &mut [u8], at: usize) -> usize
     ensures { (out.new, result) ≡ (out.old, at) ▹ text.answered answer }
 {
     match answer {
-        Answer::Refused(number) => bench_page::write_decimal(number as u64, out, at),
-        Answer::Done(reading) => write_reading(reading, out, at),
+        Ok(reading) => write_reading(reading, out, at),
+        Err(refusal) => bench_page::write_decimal(refusal.number as u64, out, at),
     }
 }
 
@@ -37,12 +37,9 @@ fn write_reading(reading: Reading, out: &mut [u8], at: usize) -> usize
 pub fn write_channels(reading: Reading, out: &mut [u8], at: usize) -> usize
     ensures { (out.new, result) ≡ (out.old, at) ▹ text.channels reading }
 {
-    let t = reading.temperature;
-    let p = reading.pressure;
-    let h = reading.humidity;
-    let a = write_temperature(t, out, at);
-    let b = write_channel(b'p', p, out, a);
-    write_channel(b'h', h, out, b)
+    let a = write_temperature(reading.temperature, out, at);
+    let b = write_channel(b'p', reading.pressure, out, a);
+    write_channel(b'h', reading.humidity, out, b)
 }
 
 // Writes a temperature with its fine temperature, or the number in their place.
@@ -50,16 +47,16 @@ fn write_temperature(channel: TemperatureAnswer, out: &mut [u8], at: usize) -> u
     ensures { (out.new, result) ≡ (out.old, at) ▹ text.temperature channel }
 {
     match channel {
-        TemperatureAnswer::Known { value, fine } => write_known(value, fine, out, at),
-        TemperatureAnswer::Missing(m) => write_number(b't', b'!', m.number as u64, out, at),
+        Ok(known) => write_known(known, out, at),
+        Err(m) => write_number(b't', b'!', m.number as u64, out, at),
     }
 }
 
 // Writes a temperature with its fine temperature.
-fn write_known(value: i32, fine: i32, out: &mut [u8], at: usize) -> usize
-    ensures { (out.new, result) ≡ (out.old, at) ▹ text.known value fine }
+fn write_known(known: Temperature, out: &mut [u8], at: usize) -> usize
+    ensures { (out.new, result) ≡ (out.old, at) ▹ text.known known }
 {
-    bench_row::fill_signed(b" t=# fine=#", &[value, fine], out, at)
+    bench_row::fill_signed(b" t=# fine=#", &[known.value, known.fine], out, at)
 }
 
 // Writes a pressure or a humidity after its letter, or the number in its place.
@@ -67,8 +64,8 @@ fn write_channel(letter: u8, channel: ChannelAnswer, out: &mut [u8], at: usize) 
     ensures { (out.new, result) ≡ (out.old, at) ▹ text.channel (letter ∷ []) channel }
 {
     match channel {
-        ChannelAnswer::Known(value) => write_number(letter, b'=', value as u64, out, at),
-        ChannelAnswer::Missing(m) => write_number(letter, b'!', m.number as u64, out, at),
+        Ok(value) => write_number(letter, b'=', value as u64, out, at),
+        Err(m) => write_number(letter, b'!', m.number as u64, out, at),
     }
 }
 

@@ -1,7 +1,7 @@
 -- Points, cells and verdicts as text, by the definitions.
 use Rattle.std.specs.Prelude.{◌≡◌, refl, pos, negsuc}
 use Rattle.std.specs.Float.Ieee.{to_bits, of_int, div}
-use Rattle.formula.specs.Answers.{missing}
+use Rattle.paper.specs.Answers.{missing}
 use Rattle.rooms.specs.declared.Cell.TheVariants.{Temperature, Pressure, Humidity, Missing}
 use Rattle.rooms.specs.declared.Cells.{Cells}
 use Rattle.rooms.specs.declared.Verdict.TheVariants.{Agree, Differ, Unknown}

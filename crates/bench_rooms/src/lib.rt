@@ -9,6 +9,8 @@ ghost use Rattle.bench_rooms.specs.Map as text;
 
 use rooms::{Cell, Cells, MapPoint, Verdict, Verdicts};
 
+// Three on a line stand out each time: a closure for one of them would take the page and the place as these calls do, and be longer.
+
 // Writes a map point.
 pub fn point(point: MapPoint, out: &mut [u8], at: usize) -> usize
     ensures { (out.new, result) ≡ (out.old, at) ▹ text.point point }
@@ -34,28 +36,22 @@ pub fn point(point: MapPoint, out: &mut [u8], at: usize) -> usize
 pub fn cells(cells: Cells, out: &mut [u8], at: usize) -> usize
     ensures { (out.new, result) ≡ (out.old, at) ▹ text.cells cells }
 {
-    let mut cell = cells.temperature;
-    let a = write_cell(b't', cell, out, at);
+    let a = write_cell(b't', cells.temperature, out, at);
     let b = bench_page::write_byte(b' ', out, a);
-    cell = cells.pressure;
-    let c = write_cell(b'p', cell, out, b);
+    let c = write_cell(b'p', cells.pressure, out, b);
     let d = bench_page::write_byte(b' ', out, c);
-    cell = cells.humidity;
-    write_cell(b'h', cell, out, d)
+    write_cell(b'h', cells.humidity, out, d)
 }
 
 // Writes what two rooms are to each other.
 pub fn verdicts(verdicts: Verdicts, out: &mut [u8], at: usize) -> usize
     ensures { (out.new, result) ≡ (out.old, at) ▹ text.verdicts verdicts }
 {
-    let mut verdict = verdicts.temperature;
-    let a = write_verdict(b't', verdict, out, at);
+    let a = write_verdict(b't', verdicts.temperature, out, at);
     let b = bench_page::write_byte(b' ', out, a);
-    verdict = verdicts.pressure;
-    let c = write_verdict(b'p', verdict, out, b);
+    let c = write_verdict(b'p', verdicts.pressure, out, b);
     let d = bench_page::write_byte(b' ', out, c);
-    verdict = verdicts.humidity;
-    write_verdict(b'h', verdict, out, d)
+    write_verdict(b'h', verdicts.humidity, out, d)
 }
 
 // The bits of a double.
@@ -63,13 +59,14 @@ pub fn verdicts(verdicts: Verdicts, out: &mut [u8], at: usize) -> usize
 fn bits(x: f64) -> u64
     ensures { result ≡ to_bits binary64 x }
 {
-    if x == x {
-        return f64::to_bits(x);
+    if x.is_nan() {
+        return 0x7FF8000000000000;
     }
-    0x7FF8000000000000
+    x.to_bits()
 }
 
 // Writes a double after its letter: its bits, in 16 hex digits.
+// A mark shows the lowest byte of its number, so each is divided: out of `to_be_bytes` each of the eight would be widened by hand again.
 fn write_double(letter: u8, x: f64, out: &mut [u8], at: usize) -> usize
     ensures { (out.new, result) ≡ (out.old, at) ▹ text.double letter x }
 {
@@ -96,9 +93,9 @@ fn write_cell(letter: u8, cell: Cell, out: &mut [u8], at: usize) -> usize
     ensures { (out.new, result) ≡ (out.old, at) ▹ text.cell letter cell }
 {
     match cell {
-        Cell::Temperature(x) => write_double(letter, x, out, at),
-        Cell::Pressure(x) => write_double(letter, x, out, at),
-        Cell::Humidity(x) => write_double(letter, x, out, at),
+        Cell::Temperature(x) | Cell::Pressure(x) | Cell::Humidity(x) => {
+            write_double(letter, x, out, at)
+        }
         Cell::Missing(m) => bench_row::fill(&[letter, b'!', b'#'], &[m.number as u64], out, at),
     }
 }

@@ -7,7 +7,10 @@ ghost use Rattle.waiting.specs.Waiting.{maximum, typical, waited, wait_answer};
 ghost use Rattle.waiting.specs.Polling.{polled, poll_answer};
 ghost use Rattle.bench_waiting.specs.Times as times;
 
-use waiting::{Estimate, Polled, Wait};
+use paper::Refusal;
+use waiting::{Estimate, NeverReady, Ready};
+
+// A command asks for each wait by a name of its own: with the estimate as an argument the same constant would stand at each call instead of here.
 
 // Writes the microseconds that a conversion at three codes takes at most, or the number that refuses them.
 pub fn wait_maximum(t: u8, p: u8, h: u8, out: &mut [u8], at: usize) -> usize
@@ -31,27 +34,27 @@ pub fn poll(status: &[u8], allowance: usize, out: &mut [u8], at: usize) -> usize
 }
 
 // Writes microseconds, or the number in their place.
-fn write_wait(wait: Wait, out: &mut [u8], at: usize) -> usize
+fn write_wait(wait: Result<u32, Refusal>, out: &mut [u8], at: usize) -> usize
     ensures { (out.new, result) ≡ (out.old, at) ▹ times.wait (wait_answer wait) }
 {
     match wait {
-        Wait::Microseconds(n) => bench_row::fill(b"# #", &[paper::DONE as u64, n as u64], out, at),
-        Wait::Refused(number) => bench_page::write_decimal(number as u64, out, at),
+        Ok(n) => bench_row::fill(b"# #", &[paper::DONE as u64, n as u64], out, at),
+        Err(why) => bench_page::write_decimal(why.number as u64, out, at),
     }
 }
 
 // Writes a place with the polls made, or the polls made.
-fn write_poll(polled: Polled, out: &mut [u8], at: usize) -> usize
+fn write_poll(polled: Result<Ready, NeverReady>, out: &mut [u8], at: usize) -> usize
     ensures { (out.new, result) ≡ (out.old, at) ▹ times.poll (poll_answer polled) }
 {
     match polled {
-        Polled::Ready { place, polls } => bench_row::fill(
+        Ok(Ready { place, polls }) => bench_row::fill(
             b"# place=# polls=#",
             &[paper::DONE as u64, place as u64, polls as u64],
             out,
             at,
         ),
-        Polled::Never { polls } => bench_row::fill(
+        Err(NeverReady { polls }) => bench_row::fill(
             b"# polls=#",
             &[paper::NEVER_READY as u64, polls as u64],
             out,

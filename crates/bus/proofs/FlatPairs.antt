@@ -1,17 +1,17 @@
--- Flat pairs taken two bytes at a time, over the test or the change of the register byte.
+-- Flat pairs taken two bytes at a time, over the change of the register byte.
 use mathlib.Core.Path.{◌≡◌, refl, ap, sym, ◌∙◌}
-use mathlib.Core.Bool.{Bool, true, false, ◌&&◌}
+use mathlib.Core.Bool.{true}
 use mathlib.Core.List.{List, [], ◌∷◌, ◌++◌, append_assoc, append-nil}
 use Prim.Native.Nat.{ℕ, suc, ◌+◌, ◌≤◌, ◌<◌, ◌%◌}
 use native.Mathlib.Omega.{arith}
 use native.Mathlib.Numerals.{add-one}
-use lib.ListN.{length, get_or, drop, take, set, length-set, take-append-drop, drop_of_length-le}
+use lib.ListN.{length, get_or, drop, take, set, length-set, take-append-drop}
 use lib.Seq.{drop-cons, drop-length, take-suc-set, drop-set-lt, drop-drop}
 use borrow.Author.Tests.{eqb-true}
 use Rattle.bus.specs.declared.register.Change.{Change}
 use Rattle.bus.specs.RegisterByte.{changed}
 use Rattle.bus.specs.Lent.{laid_over}
-use Rattle.bus.specs.Pairs.{is_even, every, with_registers}
+use Rattle.bus.specs.Pairs.{is_even, with_registers}
 
 drop-pair : (s : List ℕ) (i : ℕ) → i + 1 < length s → drop i s ≡ get_or s i 0 ∷ get_or s (i + 1) 0 ∷ drop (i + 2) s
 drop-pair s i h =
@@ -19,41 +19,6 @@ drop-pair s i h =
     let e : suc (suc i) ≡ i + 2 = omega arith in
     let b : suc i < length s = omega arith in
     drop-cons s i 0 a ∙ ap (λ l. get_or s i 0 ∷ l) (drop-cons s (suc i) 0 b) ∙ rw (e, add-one)
-
--- ---- asking every register
-
-after_one : (test : ℕ → Bool) (register : ℕ) (rest : List ℕ) → every test (register ∷ rest) ≡ (test register && every test (drop 1 rest))
-unfolding every
-after_one test register [] = at (test register)
-  where
-    at : (t : Bool) → t ≡ (t && true)
-    at true = refl
-    at false = refl
-after_one test register (value ∷ rest) = refl
-
--- the registers of the first i bytes pass
-pub record Asking (test : ℕ → Bool) (s : List ℕ) (i : ℕ) : Type 0 where
-  pub rest : every test (drop i s) ≡ every test s
-
-module _ (test : ℕ → Bool) (s : List ℕ) where
-  pub asking-none : Asking test s 0
-  asking-none = record { rest = refl }
-
-  module _ (i : ℕ) (a : Asking test s i) where
-    from-here : i < length s → every test s ≡ (test (get_or s i 0) && every test (drop (i + 2) s))
-    from-here h =
-        let e : suc i + 1 ≡ i + 2 = omega arith in
-        sym a.rest ∙ ap (every test) (drop-cons s i 0 h) ∙ after_one test (get_or s i 0) (drop (suc i) s) ∙ rw (drop-drop 1 (suc i) s, e)
-
-    pub asking-more : i < length s → test (get_or s i 0) ≡ true → Asking test s (i + 2)
-    asking-more h e = record { rest = sym (rw e at (from-here h)) }
-
-    pub asking-fails : i < length s → test (get_or s i 0) ≡ false → false ≡ every test s
-    asking-fails h e = sym (rw e at (from-here h))
-
-    pub asking-done : length s ≤ i → true ≡ every test s
-    unfolding every
-    asking-done h = rw (drop_of_length-le s h) at a.rest
 
 -- ---- changing every register
 

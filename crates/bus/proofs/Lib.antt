@@ -1,4 +1,5 @@
 -- What the proofs of more than one function cite, and what the definitions are shown to mean.
+pub mod Registers
 pub mod FlatPairs
 pub mod Buffers
 pub mod Addresses

@@ -1,5 +1,5 @@
 -- A number is 0 exactly where every check holds, and by the number a lent buffer is written or not.
-use mathlib.Core.Path.{◌≡◌, refl, ap}
+use mathlib.Core.Path.{◌≡◌, refl, ap, sym, ◌∙◌}
 use mathlib.Core.Bool.{Bool, true, false}
 use mathlib.Core.List.{List, [], ◌∷◌, ◌++◌}
 use Prim.Native.Nat.{ℕ, ◌≤◌}
@@ -8,15 +8,17 @@ use lib.Dec.{eqb, leb}
 use lib.ListN.{length, take, drop}
 use lib.Seq.{take-append_seam}
 use borrow.Author.Tests.{leb-true, le-leb, eq-eqb, ne_eqb, eqb-true, eqb-false}
+use Rattle.std.specs.Prelude.{Result, Ok, Err}
 use Rattle.laws.specs.Choices.{pick}
 use Rattle.paper.specs.Numbers as no
+use Rattle.paper.specs.declared.Refusal.{Refusal}
 use Rattle.paper.specs.Answers.{Answer, given, refused}
 use Rattle.bus.specs.declared.Bus.{Bus}
 use Rattle.bus.specs.declared.Device.{Device}
 use Rattle.paper.specs.Registers.{is_writable, is_readable}
 use Rattle.bus.specs.Pairs.{are_pairs, every}
 use Rattle.bus.specs.Devices.{is_device}
-use Rattle.bus.specs.Lent.{check, laid_over, handed}
+use Rattle.bus.specs.Lent.{check, checked, laid_over, handed}
 use Rattle.bus.specs.Writing.{pairs_number, encode_number, decode_number, is_shaped, body, means_writable}
 use Rattle.bus.specs.Reading.{read_number}
 
@@ -76,17 +78,36 @@ read-holds device register needed room e =
     let (d, _) = holds (leb needed room) no.buffer_too_short no.done (λ z. omega arith) last in
     (a, leb-true needed room d)
 
+-- ---- what a check answers says of its number
+
+pub checked-ok : (number : ℕ) → Ok tt ≡ checked number → number ≡ no.done
+checked-ok number = pick (λ (answer : Result Unit Refusal). Ok tt ≡ answer → number ≡ no.done) (eqb number no.done) (λ e a. eqb-true number no.done e) (λ e a. cc)
+
+pub checked-err : (number : ℕ) (why : Refusal) → Err why ≡ checked number → (number ≡ no.done → ⊥) × (why.number ≡ number)
+checked-err number why =
+    pick (λ (answer : Result Unit Refusal). Err why ≡ answer → (number ≡ no.done → ⊥) × (why.number ≡ number)) (eqb number no.done)
+    (λ e a. cc) (λ e a. (eqb-false number no.done e, cc))
+
 -- ---- by the number
 
-module _ {k number : ℕ} (values bytes lent : List ℕ) (e : k ≡ number) where
-  pub refusing : (k ≡ no.done → ⊥) → (refused k, lent) ≡ handed number values bytes lent
-  unfolding handed
-  refusing h = rw (← e, ne_eqb k no.done h)
+-- where no check failed, it is 0
+pub done : {answer : Result Unit Refusal} {number : ℕ} → answer ≡ checked number → answer ≡ Ok tt → number ≡ no.done
+done {number = number} e a = checked-ok number (sym a ∙ e)
 
-  pub handing :
-      {n : ℕ} {x : List ℕ} → k ≡ no.done → n ≡ length bytes → x ≡ laid_over bytes lent → (given (values ++ n ∷ []), x) ≡ handed number values bytes lent
-  unfolding handed
-  handing z p q = rw (← e, eq-eqb k no.done z, p, q)
+-- and where one did, nothing is written
+pub refusing :
+    {answer : Result Unit Refusal} {why : Refusal} (number : ℕ) (values bytes lent : List ℕ) → answer ≡ checked number → answer ≡ Err why →
+    (refused why.number, lent) ≡ handed number values bytes lent
+unfolding handed
+refusing {why = why} number values bytes lent e a =
+    let (h, n) = checked-err number why (sym a ∙ e) in rw (n, ne_eqb number no.done h)
+
+-- where it is 0, the bytes are
+pub handing :
+    {n number : ℕ} {x : List ℕ} (values bytes lent : List ℕ) → number ≡ no.done → n ≡ length bytes → x ≡ laid_over bytes lent →
+    (given (values ++ n ∷ []), x) ≡ handed number values bytes lent
+unfolding handed
+handing {number = number} values bytes lent z p q = rw (eq-eqb number no.done z, p, q)
 
 -- and what an answer that was given says of the number and of the buffer
 module _ (number : ℕ) (values bytes lent values' lent' : List ℕ) where

@@ -59,7 +59,7 @@ module _ (device : Device) (pairs : List ℕ) (d : is_device device ≡ true) (a
   unfolding decoded_write message
   sent-decoded lent h =
       let number = decode-passes (bus_of device) (message device pairs) (length pairs) (length lent) sent-shaped (sent-sendable (length lent) h) in
-      rw (sent-pairs, same-device device wire) (sym (handing (addresses device) pairs lent refl number refl refl))
+      rw (sent-pairs, same-device device wire) (sym (handing (addresses device) pairs lent number refl refl))
 
 -- ---- decoded, then encoded
 
@@ -88,7 +88,7 @@ module _ (bus : Bus) (bytes : List ℕ) (shaped : is_shaped bus bytes ≡ true) 
   unfolding encoded_write
   received-encoded lent h =
       let number = encode-passes target (pairs_of bus bytes) (length bytes) (length lent) (is-device bus (first_of bytes) (shaped-led bus bytes shaped)) (received-sendable (length lent) h) in
-      rw same_bytes (sym (handing [] bytes lent refl number refl refl))
+      rw same_bytes (sym (handing [] bytes lent number refl refl))
 
 -- ---- the two theorems, for any lent buffer with room
 

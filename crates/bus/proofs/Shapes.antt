@@ -1,5 +1,5 @@
 -- What the tests of pairs and of a shape say, and how long changed pairs are.
-use mathlib.Core.Path.{◌≡◌, refl, subst}
+use mathlib.Core.Path.{◌≡◌, refl}
 use mathlib.Core.Bool.{true, ◌&&◌}
 use mathlib.Core.List.{List}
 use Prim.Native.Nat.{ℕ, ◌+◌, ◌*◌, ◌≤◌}
@@ -15,12 +15,10 @@ use Rattle.bus.specs.declared.Bus.TheVariants.{I2c, Spi}
 use Rattle.bus.specs.declared.Device.{Device}
 use Rattle.bus.specs.declared.Device.TheVariants.{At, Selected}
 use Rattle.bus.specs.declared.register.Change.{Change}
-use Rattle.bus.specs.declared.register.Test.TheVariants.{Writable}
-use Rattle.bus.specs.RegisterByte.{is_carried, sending, receiving}
-use Rattle.bus.specs.Tests.{passes}
+use Rattle.bus.specs.RegisterByte.{is_carried, is_changed_writable, sending, receiving}
 use Rattle.bus.specs.Pairs.{is_even, are_pairs, every}
 use Rattle.bus.specs.Devices.{bus_of, leading, leading_length, is_led}
-use Rattle.bus.specs.Writing.{pairs_number, message, first_of, body, is_shaped, means_writable, pairs_of, decode_number}
+use Rattle.bus.specs.Writing.{pairs_number, message, first_of, body, is_shaped, pairs_of, decode_number}
 
 pub pairs-even : (s : List ℕ) → are_pairs s ≡ true → is_even s ≡ true
 pairs-even s e = (both (is_even s) (leb 1 (length s) && leb (length s) (2 * reg.most_pairs)) e).0
@@ -60,10 +58,8 @@ leading_length_lem (At address) = refl
 leading_length_lem Selected = refl
 
 -- decoding needs room for as many bytes as the body has
-pub decode-number : (bus : Bus) (bytes : List ℕ) (room : ℕ) {change : Change} {pairs : List ℕ} {number : ℕ} →
+pub decode-number : (bus : Bus) (bytes : List ℕ) (room : ℕ) {change : Change} {pairs : List ℕ} →
     is_shaped bus bytes ≡ true → pairs ≡ body bus bytes → change ≡ receiving bus →
-    number ≡ pairs_number (passes (Writable change)) pairs (length pairs) room → number ≡ decode_number bus bytes (length (pairs_of bus bytes)) room
+    pairs_number (is_changed_writable change) pairs (length pairs) room ≡ decode_number bus bytes (length (pairs_of bus bytes)) room
 unfolding decode_number pairs_of
-decode-number bus bytes room {change} {pairs} {number} shaped b r h =
-    let g : number ≡ pairs_number (means_writable bus) pairs (length pairs) room = subst (λ (x : Change). number ≡ pairs_number (passes (Writable x)) pairs (length pairs) room) r h in
-    rw (shaped, changed-length) (rw b at g)
+decode-number bus bytes room shaped b r = rw (shaped, changed-length, b, r)

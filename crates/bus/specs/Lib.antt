@@ -1,6 +1,5 @@
 -- Bus bytes: what the crate's promises cite.
 pub mod RegisterByte
-pub mod Tests
 pub mod Pairs
 pub mod Devices
 pub mod Lent

@@ -1,5 +1,6 @@
 -- The register byte: what a bus does to it, and which a write can have there.
 use Rattle.std.specs.Prelude.{ℕ, ◌+◌, ◌%◌, ltb, Bool, true}
+use Rattle.paper.specs.Registers.{is_writable}
 use Rattle.bus.specs.declared.Bus.{Bus}
 use Rattle.bus.specs.declared.Bus.TheVariants.{I2c, Spi}
 use Rattle.bus.specs.declared.register.Change.{Change}
@@ -26,3 +27,7 @@ receiving Spi = SetBit7
 abbrev pub is_carried : Bus → ℕ → Bool
 is_carried I2c byte = true
 is_carried Spi byte = ltb byte bit7
+
+-- whether the register that a byte means once changed may be written
+abbrev pub is_changed_writable : Change → ℕ → Bool
+is_changed_writable change byte = is_writable (changed change byte)

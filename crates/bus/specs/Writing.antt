@@ -1,13 +1,11 @@
 -- Writes: register and value pairs as bytes of either bus, and back.
-use Rattle.std.specs.Prelude.{ℕ, leb, length, get_or, drop, Bool, ◌&&◌, List, [], ◌∷◌, ◌++◌}
+use Rattle.std.specs.Prelude.{ℕ, leb, length, get_or, drop, Bool, ◌&&◌, List, [], ◌∷◌, ◌++◌, Result, Ok, Err}
 use Rattle.paper.specs.Numbers as no
+use Rattle.paper.specs.declared.Refusal.{Refusal}
 use Rattle.paper.specs.Answers.{Answer, given, refused}
 use Rattle.bus.specs.declared.Bus.{Bus}
 use Rattle.bus.specs.declared.Device.{Device}
-use Rattle.bus.specs.declared.Encoded.{Encoded}
-use Rattle.bus.specs.declared.Encoded.TheVariants as encoded
 use Rattle.bus.specs.declared.Decoded.{Decoded}
-use Rattle.bus.specs.declared.Decoded.TheVariants as decoded
 use Rattle.paper.specs.Registers.{is_writable}
 use Rattle.bus.specs.RegisterByte.{is_carried, changed, sending, receiving}
 use Rattle.bus.specs.Pairs.{is_even, are_pairs, every, with_registers}
@@ -64,12 +62,12 @@ decoded_write bus bytes lent =
     handed (decode_number bus bytes (length (pairs_of bus bytes)) (length lent)) (addresses (addressed bus (first_of bytes)))
     (pairs_of bus bytes) lent
 
--- ---- the paper's number and values for each case of the enums
+-- ---- the paper's number and values for each case
 
-abbrev pub encoded_answer : Encoded → Answer
-encoded_answer (encoded.Bytes n) = given (n ∷ [])
-encoded_answer (encoded.Refused number) = refused number
+abbrev pub encoded_answer : Result ℕ Refusal → Answer
+encoded_answer (Ok n) = given (n ∷ [])
+encoded_answer (Err why) = refused why.number
 
-abbrev pub decoded_answer : Decoded → Answer
-decoded_answer (decoded.Pairs device n) = given (addresses device ++ n ∷ [])
-decoded_answer (decoded.Refused number) = refused number
+abbrev pub decoded_answer : Result Decoded Refusal → Answer
+decoded_answer (Ok decoded) = given (addresses decoded.device ++ decoded.bytes ∷ [])
+decoded_answer (Err why) = refused why.number

@@ -13,75 +13,61 @@ mod question;
 mod register;
 mod shape;
 
+use paper::Refusal;
+
 // The two buses.
-#[derive(Clone, Copy)]
+#[derive(Clone, Copy, Debug, PartialEq, Eq)]
 pub enum Bus {
     I2c,
     Spi,
 }
 
 // The device that a message is for: on I2C at its address, on SPI selected by its own line.
-#[derive(Clone, Copy)]
+#[derive(Clone, Copy, Debug, PartialEq, Eq)]
 pub enum Device {
     At(u8),
     Selected,
 }
 
-// How many bytes were written to the lent buffer, or the number that says why none was.
-#[derive(Clone, Copy)]
-pub enum Encoded {
-    Bytes(usize),
-    Refused(u8),
-}
-
-// The device, and how many bytes of pairs were written to the lent buffer, or the number that says why none was.
-#[derive(Clone, Copy)]
-pub enum Decoded {
-    Pairs { device: Device, bytes: usize },
-    Refused(u8),
+// What a write decodes to: the device that it is for, and how many bytes of pairs were written to the lent buffer.
+#[derive(Clone, Copy, Debug, PartialEq, Eq)]
+pub struct Decoded {
+    pub device: Device,
+    pub bytes: usize,
 }
 
 // Writes the message that sets each register of the pairs to its value.
 // Refuses with 4 for the device address, 15, 4 for registers, 9.
-pub fn encode_write(device: Device, pairs: &[u8], lent: &mut [u8]) -> Encoded
+pub fn encode_write(device: Device, pairs: &[u8], lent: &mut [u8]) -> Result<usize, Refusal>
     ensures { (encoded_answer result, lent.new) ≡ encoded_write device pairs.now lent.old }
 {
     let length = message::message_length(device, pairs);
-    let number = checks::encode_number(device, pairs, length, lent.len());
-    if number != paper::DONE {
-        return Encoded::Refused(number);
-    }
+    checks::check_encoding(device, pairs, length, lent.len())?;
     message::write_message(device, pairs, lent);
-    Encoded::Bytes(length)
+    Ok(length)
 }
 
 // Writes the pairs that a write's bytes carry, and gives the device that they are for.
 // Refuses with 16, 15, 4, 9.
-pub fn decode_write(bus: Bus, bytes: &[u8], lent: &mut [u8]) -> Decoded
+pub fn decode_write(bus: Bus, bytes: &[u8], lent: &mut [u8]) -> Result<Decoded, Refusal>
     ensures { (decoded_answer result, lent.new) ≡ decoded_write bus bytes.now lent.old }
 {
-    let number = checks::decode_number(bus, bytes, lent.len());
-    if number != paper::DONE {
-        return Decoded::Refused(number);
-    }
+    checks::check_decoding(bus, bytes, lent.len())?;
     let body = shape::body(bus, bytes);
     pairs::write_changed(register::receiving(bus), body, lent);
-    Decoded::Pairs {
+    Ok(Decoded {
         device: addressing::addressed(bus, bytes[0]),
         bytes: body.len(),
-    }
+    })
 }
 
 // Writes the bytes that ask the device for a register: on I2C both messages, one after the other.
 // Refuses with 4 for the device address, 4 for the register, 9.
-pub fn encode_read(device: Device, register: u8, lent: &mut [u8]) -> Encoded
+pub fn encode_read(device: Device, register: u8, lent: &mut [u8]) -> Result<usize, Refusal>
     ensures { (encoded_answer result, lent.new) ≡ encoded_read device register lent.old }
 {
     let length = question::question_length(device, register);
-    let number = checks::read_number(device, register, length, lent.len());
-    if number != paper::DONE {
-        return Encoded::Refused(number);
-    }
+    checks::check_reading(device, register, length, lent.len())?;
     question::write_question(device, register, lent);
-    Encoded::Bytes(length)
+    Ok(length)
 }

@@ -1,25 +1,17 @@
 // The register byte: what a bus does to it, and which a write can have there.
 ghost use Rattle.std.specs.Prelude.{◌≡◌};
-ghost use Rattle.bus.specs.RegisterByte.{is_carried, changed as changedBy, sending as sendingOn, receiving as receivingOn};
-ghost use Rattle.bus.specs.Tests.{passes as passesTest};
+ghost use Rattle.bus.specs.RegisterByte.{is_carried, is_changed_writable, changed as changedBy, sending as sendingOn, receiving as receivingOn};
 
 use crate::Bus;
 
 const BIT_7: u8 = 0x80;
 
-// What is done to a register byte.
+// What is done to a register byte. The definitions `sending` and `receiving` name it for each bus, so it is no closure.
 #[derive(Clone, Copy)]
 pub(crate) enum Change {
     Keep,
     ClearBit7,
     SetBit7,
-}
-
-// What is asked of a register byte: that a write on the bus can have it, or that once changed it may be written.
-#[derive(Clone, Copy)]
-pub(crate) enum Test {
-    Carried(Bus),
-    Writable(Change),
 }
 
 // The register byte changed.
@@ -54,7 +46,7 @@ pub(crate) fn receiving(bus: Bus) -> Change
 }
 
 // Whether a write on this bus can have the register byte.
-fn is_carried(bus: Bus, byte: u8) -> bool
+pub(crate) fn is_carried(bus: Bus, byte: u8) -> bool
     ensures { result ≡ is_carried bus byte }
 {
     match bus {
@@ -63,12 +55,9 @@ fn is_carried(bus: Bus, byte: u8) -> bool
     }
 }
 
-// Whether the register byte passes the test.
-pub(crate) fn passes(test: Test, byte: u8) -> bool
-    ensures { result ≡ passesTest test byte }
+// Whether the register that a byte means once changed may be written.
+pub(crate) fn is_changed_writable(change: Change, byte: u8) -> bool
+    ensures { result ≡ is_changed_writable change byte }
 {
-    match test {
-        Test::Carried(bus) => is_carried(bus, byte),
-        Test::Writable(change) => paper::is_writable(changed(change, byte)),
-    }
+    paper::is_writable(changed(change, byte))
 }

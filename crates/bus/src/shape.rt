@@ -2,8 +2,7 @@
 ghost use Rattle.std.specs.Prelude.{◌≡◌, ◌≤◌, length};
 ghost use Rattle.bus.specs.Writing.{is_shaped, body as body_of};
 
-use crate::register::Test;
-use crate::{Bus, addressing, pairs};
+use crate::{Bus, addressing, pairs, register};
 
 // Whether the bytes have the shape of a write on this bus.
 pub(crate) fn is_shaped(bus: Bus, bytes: &[u8]) -> bool
@@ -19,7 +18,7 @@ pub(crate) fn is_shaped(bus: Bus, bytes: &[u8]) -> bool
     if pairs.len() % 2 != 0 {
         return false;
     }
-    pairs::every(Test::Carried(bus), pairs)
+    pairs::every(pairs, |byte| register::is_carried(bus, byte))
 }
 
 // What stands after the I2C address, and all there is on SPI.

@@ -1,15 +1,15 @@
--- Two answers that the promise allows are equal: the paper's number and values leave only one case of the enum, with the same words.
+-- Two answers that the promise allows are equal: the paper's number and values leave only one case, with the same words.
 use mathlib.Core.Path.{◌≡◌, ap}
 use mathlib.Core.List.{List}
 use Prim.Native.Nat.{ℕ}
 use lib.IntN.{ℤ, pos}
 use lib.ListN.{get_or}
 use lib.Signed.{mag}
+use Rattle.std.specs.Prelude.{Ok, Err}
+use Rattle.paper.specs.Answers.{refusal}
 use Rattle.paper.proofs.Answers.{same_number, same-values}
 use Rattle.calibration.specs.declared.Words.{Words}
-use Rattle.calibration.specs.declared.Calibration.{Calibration}
-use Rattle.calibration.specs.declared.Calibration.TheVariants.{Known, Refused}
-use Rattle.calibration.specs.Calibration.{values, calibration_answer}
+use Rattle.calibration.specs.Calibration.{Calibration, values, calibration_answer}
 
 -- the words that a list of values has
 abbrev words_in : List ℤ → Words
@@ -28,7 +28,7 @@ same-words w v e = ap words_in e
 -- what `calibrate` promises fixes its answer
 pub one-calibration : (a b : Calibration) → calibration_answer a ≡ calibration_answer b → a ≡ b
 unfolding calibration_answer values
-one-calibration (Known w) (Known v) e = ap Known (same-words w v (same-values e))
-one-calibration (Known w) (Refused k) e = cc (same-values e)
-one-calibration (Refused j) (Known v) e = cc (same-values e)
-one-calibration (Refused j) (Refused k) e = cc (same_number e)
+one-calibration (Ok w) (Ok v) e = ap Ok (same-words w v (same-values e))
+one-calibration (Ok w) (Err k) e = cc (same-values e)
+one-calibration (Err j) (Ok v) e = cc (same-values e)
+one-calibration (Err j) (Err k) e = ap (λ (number : ℕ). Err (refusal number)) (same_number e)

@@ -7,15 +7,15 @@ use native.Mathlib.Omega.{arith}
 use lib.Dec.{eqb}
 use lib.ListN.{length}
 use borrow.Author.Tests.{ne_eqb}
+use Rattle.std.specs.Prelude.{Ok, Err}
 use Rattle.paper.specs.Numbers as no
 use Rattle.paper.specs.Registers as reg
+use Rattle.paper.specs.declared.Refusal.{Refusal}
+use Rattle.paper.specs.Answers.{refusal}
 use Rattle.calibration.specs.declared.Words.{Words}
-use Rattle.calibration.specs.declared.Calibration.{Calibration}
-use Rattle.calibration.specs.declared.Calibration.TheVariants as blocks
-use Rattle.calibration.specs.Calibration.{calibrated}
+use Rattle.calibration.specs.Calibration.{Calibration, calibrated}
 use Rattle.data.specs.Counts.{counts_of}
 use Rattle.compensation.specs.declared.Reading.{Reading}
-use Rattle.compensation.specs.declared.Answer.TheVariants.{Done, Refused}
 use Rattle.compensation.specs.Compensation.{reading, compensated_words, compensated_with, compensated}
 use Rattle.compensation.specs.Missing as missing
 
@@ -35,15 +35,15 @@ pub answered : missing.Answered
 unfolding compensated compensated_words
 answered one two bytes t p h words known eight codes = rw (known, eight, codes)
 
-never : {n : ℕ} {r : Reading} → Refused n ≡ Done r → ⊥
+never : {n : Refusal} {r : Reading} → Err n ≡ Ok r → ⊥
 never e = let z : ◌≡◌ {A = ℕ} 0 1 = cc in omega arith
 
 module _ (words : Words) (bytes : List ℕ) (t p h : ℕ) (r : Reading) where
-  by_codes : (b : Bool) → cond b (Done (reading words (counts_of bytes) t p h)) (Refused no.out_of_range) ≡ Done r → reading words (counts_of bytes) t p h ≡ r
+  by_codes : (b : Bool) → cond b (Ok (reading words (counts_of bytes) t p h)) (Err (refusal no.out_of_range)) ≡ Ok r → reading words (counts_of bytes) t p h ≡ r
   by_codes true e = cc
   by_codes false e = absurd (never e)
 
-  by_length : (b : Bool) → cond b (compensated_words words bytes t p h) (Refused no.wrong_length) ≡ Done r → reading words (counts_of bytes) t p h ≡ r
+  by_length : (b : Bool) → cond b (compensated_words words bytes t p h) (Err (refusal no.wrong_length)) ≡ Ok r → reading words (counts_of bytes) t p h ≡ r
   unfolding compensated_words
   by_length true e = by_codes (reg.are_codes t p h) e
   by_length false e = absurd (never e)
@@ -52,8 +52,8 @@ pub of-answers : missing.OfAnswers
 unfolding compensated
 of-answers one two bytes t p h r = go (calibrated one two) refl
   where
-    go : (k : Calibration) → calibrated one two ≡ k → compensated_with k bytes t p h ≡ Done r → missing.OfAnswer one two bytes t p h r
-    go (blocks.Known words) is e = record {
+    go : (k : Calibration) → calibrated one two ≡ k → compensated_with k bytes t p h ≡ Ok r → missing.OfAnswer one two bytes t p h r
+    go (Ok words) is e = record {
       words = words;
       known = is;
       channels =
@@ -61,7 +61,7 @@ of-answers one two bytes t p h r = go (calibrated one two) refl
           (by_length words bytes t p h r (eqb (length bytes) reg.data_length) e)
           (of-readings words (counts_of bytes) t p h);
     }
-    go (blocks.Refused n) is e = absurd (never e)
+    go (Err n) is e = absurd (never e)
 
 pub stored-by-skipped : missing.StoredBySkipped
 stored-by-skipped = refl

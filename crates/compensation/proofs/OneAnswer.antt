@@ -1,18 +1,15 @@
--- Two answers that a promise allows are equal: the paper's numbers and values leave only one case of each enum.
+-- Two answers that a promise allows are equal: the paper's numbers and values leave only one case each.
 use mathlib.Core.Path.{◌≡◌, ap}
 use mathlib.Core.List.{List, [], ◌∷◌}
 use Prim.Native.Nat.{ℕ}
 use lib.ListN.{get_or}
-use Rattle.paper.specs.Answers.{SignedAnswer, refused}
+use Rattle.std.specs.Prelude.{Ok, Err}
+use Rattle.paper.specs.Answers.{SignedAnswer, refused, refusal}
 use Rattle.paper.proofs.Answers.{same_number, same-values}
-use Rattle.formula.specs.declared.TemperatureAnswer.{TemperatureAnswer}
-use Rattle.formula.specs.declared.ChannelAnswer.{ChannelAnswer}
-use Rattle.formula.specs.Answers.{temperature_answer, channel_answer}
+use Rattle.formula.specs.Answers.{TemperatureAnswer, ChannelAnswer, temperature_answer, channel_answer}
 use Rattle.formula.proofs.OneAnswer.{one-temperature, one-channel}
 use Rattle.compensation.specs.declared.Reading.{Reading}
-use Rattle.compensation.specs.declared.Answer.{Answer}
-use Rattle.compensation.specs.declared.Answer.TheVariants.{Done, Refused}
-use Rattle.compensation.specs.Compensation.{reading_answer}
+use Rattle.compensation.specs.Compensation.{Answer, reading_answer}
 
 abbrev channels : Reading → List SignedAnswer
 channels r = temperature_answer r.temperature ∷ channel_answer r.pressure ∷ channel_answer r.humidity ∷ []
@@ -33,7 +30,7 @@ same-reading r s e =
 
 pub one-reading : (a b : Answer) → reading_answer a ≡ reading_answer b → a ≡ b
 unfolding reading_answer
-one-reading (Done r) (Done s) e = ap Done (same-reading r s (same-values e))
-one-reading (Done r) (Refused n) e = cc (same-values e)
-one-reading (Refused m) (Done s) e = cc (same-values e)
-one-reading (Refused m) (Refused n) e = cc (same_number e)
+one-reading (Ok r) (Ok s) e = ap Ok (same-reading r s (same-values e))
+one-reading (Ok r) (Err n) e = cc (same-values e)
+one-reading (Err m) (Ok s) e = cc (same-values e)
+one-reading (Err m) (Err n) e = ap (λ (number : ℕ). Err (refusal number)) (same_number e)

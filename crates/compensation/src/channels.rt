@@ -5,7 +5,8 @@ ghost use Rattle.compensation.specs.Compensation as comp;
 use crate::Reading;
 use calibration::{HumidityWords, PressureWords, TemperatureWords, Words};
 use data::Counts;
-use formula::{ChannelAnswer, Missing, TemperatureAnswer};
+use formula::{ChannelAnswer, TemperatureAnswer};
+use paper::Missing;
 
 // In the place of a channel that its code skips.
 const SKIPPED: Missing = Missing {
@@ -22,58 +23,48 @@ fn temperature(t: u8, words: TemperatureWords, count: u32) -> TemperatureAnswer
     ensures { result ≡ comp.temperature_channel t words count }
 {
     if t == 0 {
-        TemperatureAnswer::Missing(SKIPPED)
-    } else {
-        formula_temperature::temperature(words, count)
+        return Err(SKIPPED);
     }
+    formula_temperature::temperature(words, count)
 }
 
-// The pressure of an enabled channel.
-// It wants the fine temperature.
-fn pressure_at(heat: TemperatureAnswer, words: PressureWords, count: u32) -> ChannelAnswer
-    ensures { result ≡ comp.pressure_at heat words count }
+// A channel that is compensated with the fine temperature: skipped by code 0, without a temperature, or by its formula.
+// So go pressure and humidity.
+fn channel<F: FnOnce(i32) -> ChannelAnswer>(
+    code: u8,
+    heat: TemperatureAnswer,
+    formula: F,
+) -> ChannelAnswer
+    requires { F.IsAlwaysCallable formula }
+    ensures { comp.IsChannelBy (F.post formula) code heat result }
 {
-    match heat {
-        TemperatureAnswer::Missing(_) => ChannelAnswer::Missing(NO_TEMPERATURE),
-        TemperatureAnswer::Known { value: _, fine } => formula_pressure::pressure(
-            words, fine, count,
-        ),
+    if code == 0 {
+        return Err(SKIPPED);
     }
+    let warm = heat.map_err(|_| NO_TEMPERATURE)?;
+    formula(warm.fine)
 }
 
-// The pressure's channel: skipped by code 0.
+// The pressure's channel, by the maker's formula.
 fn pressure(p: u8, heat: TemperatureAnswer, words: PressureWords, count: u32) -> ChannelAnswer
     ensures { result ≡ comp.pressure_channel p heat words count }
 {
-    if p == 0 {
-        ChannelAnswer::Missing(SKIPPED)
-    } else {
-        pressure_at(heat, words, count)
-    }
+    channel(
+        p,
+        heat,
+        |fine| formula_pressure::pressure(words, fine, count),
+    )
 }
 
-// The humidity of an enabled channel.
-// It wants the fine temperature.
-fn humidity_at(heat: TemperatureAnswer, words: HumidityWords, count: u32) -> ChannelAnswer
-    ensures { result ≡ comp.humidity_at heat words count }
-{
-    match heat {
-        TemperatureAnswer::Missing(_) => ChannelAnswer::Missing(NO_TEMPERATURE),
-        TemperatureAnswer::Known { value: _, fine } => formula_humidity::humidity(
-            words, fine, count,
-        ),
-    }
-}
-
-// The humidity's channel: skipped by code 0.
+// The humidity's channel, by the maker's formula.
 fn humidity(h: u8, heat: TemperatureAnswer, words: HumidityWords, count: u32) -> ChannelAnswer
     ensures { result ≡ comp.humidity_channel h heat words count }
 {
-    if h == 0 {
-        ChannelAnswer::Missing(SKIPPED)
-    } else {
-        humidity_at(heat, words, count)
-    }
+    channel(
+        h,
+        heat,
+        |fine| formula_humidity::humidity(words, fine, count),
+    )
 }
 
 // The three channels together.

@@ -1,4 +1,5 @@
 // Compensation: what a logger's eight data bytes say of the air, channel by channel, or which number stands in a channel's place.
+// The blocks come as two slices and the codes as three bytes: C lends and hands them so, and docs/PROMISES.md promises these calls.
 #![tactic(auto)]
 
 ghost use Rattle.std.specs.Prelude.{◌≡◌};
@@ -8,8 +9,9 @@ mod channels;
 
 use calibration::{Calibration, Words};
 use formula::{ChannelAnswer, TemperatureAnswer};
+use paper::Refusal;
 
-// One reading: each channel has its value, or the number in its place.
+// One reading: each channel has its value, or what stands in the value's place.
 #[derive(Clone, Copy)]
 pub struct Reading {
     pub temperature: TemperatureAnswer,
@@ -17,23 +19,20 @@ pub struct Reading {
     pub humidity: ChannelAnswer,
 }
 
-// A reading, or the number that refuses it whole.
-#[derive(Clone, Copy)]
-pub enum Answer {
-    Done(Reading),
-    Refused(u8),
-}
+// A reading, or why it is refused whole.
+pub type Answer = Result<Reading, Refusal>;
 
 // The reading that eight bytes make with a chip's words, at the codes of temperature, pressure and humidity.
 // A code above 7 refuses it with 7.
 pub fn compensate_words(words: Words, bytes: [u8; 8], t: u8, p: u8, h: u8) -> Answer
     ensures { comp.reading_answer result ≡ comp.reading_answer (comp.compensated_words words bytes t p h) }
 {
-    if paper::are_codes(t, p, h) {
-        Answer::Done(channels::read(words, data::count(bytes), t, p, h))
-    } else {
-        Answer::Refused(paper::OUT_OF_RANGE)
+    if !paper::are_codes(t, p, h) {
+        return Err(Refusal {
+            number: paper::OUT_OF_RANGE,
+        });
     }
+    Ok(channels::read(words, data::count(bytes), t, p, h))
 }
 
 // The reading that the two calibration blocks and the data bytes make, at the codes of temperature, pressure and humidity.
@@ -49,15 +48,11 @@ pub fn compensate(one: &[u8], two: &[u8], bytes: &[u8], t: u8, p: u8, h: u8) -> 
 pub fn compensate_with(known: Calibration, bytes: &[u8], t: u8, p: u8, h: u8) -> Answer
     ensures { comp.reading_answer result ≡ comp.reading_answer (comp.compensated_with known bytes.now t p h) }
 {
-    match known {
-        Calibration::Refused(number) => Answer::Refused(number),
-        Calibration::Known(words) => if bytes.len() == paper::DATA {
-            let eight = [
-                bytes[0], bytes[1], bytes[2], bytes[3], bytes[4], bytes[5], bytes[6], bytes[7],
-            ];
-            compensate_words(words, eight, t, p, h)
-        } else {
-            Answer::Refused(paper::WRONG_LENGTH)
-        },
-    }
+    let words = known?;
+    let Ok(eight) = <[u8; paper::DATA]>::try_from(bytes) else {
+        return Err(Refusal {
+            number: paper::WRONG_LENGTH,
+        });
+    };
+    compensate_words(words, eight, t, p, h)
 }

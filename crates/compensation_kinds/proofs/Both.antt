@@ -7,6 +7,7 @@ use mathlib.Core.List.{List, []}
 use lib.Dec.{eqb}
 use lib.ListN.{length, get_or, take, length-take}
 use lib.Seq.{get_or-take}
+use Rattle.std.specs.Prelude.{Ok, Err}
 use Rattle.laws.specs.Choices.{pick}
 use Rattle.laws.specs.Tests.{never}
 use Rattle.paper.specs.Numbers as no
@@ -14,14 +15,11 @@ use Rattle.paper.specs.Registers as reg
 use Rattle.kinds.specs.declared.Kind.{Kind}
 use Rattle.kinds.specs.declared.Kind.TheVariants.{Bme280, Bmp280}
 use Rattle.data.specs.Counts.{counts_of}
-use Rattle.calibration.specs.declared.Calibration.TheVariants as blocks
 use Rattle.calibration.specs.Calibration.{words_of, calibrated}
-use Rattle.formula.specs.declared.ChannelAnswer.TheVariants.{Missing}
-use Rattle.formula.specs.Answers.{missing}
+use Rattle.paper.specs.Answers.{missing, refusal}
+use Rattle.paper.specs.declared.Refusal.{Refusal}
 use Rattle.compensation.specs.declared.Reading.{Reading}
-use Rattle.compensation.specs.declared.Answer.{Answer}
-use Rattle.compensation.specs.declared.Answer.TheVariants.{Done, Refused}
-use Rattle.compensation.specs.Compensation.{compensated_words, compensated_with, compensated}
+use Rattle.compensation.specs.Compensation.{Answer, compensated_words, compensated_with, compensated}
 use Rattle.compensation_kinds.specs.Kinds.{reading_by, are_lengths, compensated_by}
 use Rattle.compensation_kinds.specs.Both as stated
 use Rattle.compensation_kinds.proofs.Tests.{lengths-are, are-lengths, codes-are, are-codes}
@@ -32,9 +30,9 @@ module _ (one two bytes : List ℕ) (t p h : ℕ) where
   by_blocks :
       (a b : Bool) →
       cond (a && (b && eqb (length bytes) reg.data_length))
-      (cond (reg.are_codes t p h) (Done (reading_by Bme280 (words_of one two) (counts_of bytes) t p h)) (Refused no.out_of_range))
-      (Refused no.wrong_length) ≡
-      compensated_with (cond a (cond b (blocks.Known (words_of one two)) (blocks.Refused no.wrong_length)) (blocks.Refused no.wrong_length)) bytes t p h
+      (cond (reg.are_codes t p h) (Ok (reading_by Bme280 (words_of one two) (counts_of bytes) t p h)) (Err (refusal no.out_of_range)))
+      (Err (refusal no.wrong_length)) ≡
+      compensated_with (cond a (cond b (Ok (words_of one two)) (Err (refusal no.wrong_length))) (Err (refusal no.wrong_length))) bytes t p h
   unfolding compensated_words
   by_blocks true true = refl
   by_blocks true false = refl
@@ -64,9 +62,9 @@ module _ (one two bytes : List ℕ) (t p h : ℕ) where
   -- the tests that are left are of block one's length and of the codes
   by_tests :
       (a b : Bool) →
-      cond (a && true) (cond b (Done (reading_by Bmp280 (words_of one []) (counts_of (take 6 bytes)) t p h)) (Refused no.out_of_range)) (Refused no.wrong_length) ≡
+      cond (a && true) (cond b (Ok (reading_by Bmp280 (words_of one []) (counts_of (take 6 bytes)) t p h)) (Err (refusal no.out_of_range))) (Err (refusal no.wrong_length)) ≡
       stated.without_humidity
-      (cond (a && true) (cond b (Done (reading_by Bme280 (words_of one two) (counts_of bytes) t p h)) (Refused no.out_of_range)) (Refused no.wrong_length))
+      (cond (a && true) (cond b (Ok (reading_by Bme280 (words_of one two) (counts_of bytes) t p h)) (Err (refusal no.out_of_range))) (Err (refusal no.wrong_length)))
   by_tests true true = rw (temperature-in bytes, pressure-in bytes)
   by_tests true false = refl
   by_tests false b = refl
@@ -79,10 +77,10 @@ same-calls one two bytes t p h seven eight =
 
 -- ---- what a call is answered
 
-two-numbers : {a : Answer} {m n : ℕ} → a ≡ Refused m → a ≡ Refused n → m ≡ n
-two-numbers d e = cc
+two-numbers : {a : Answer} {m n : ℕ} → a ≡ Err (refusal m) → a ≡ Err (refusal n) → m ≡ n
+two-numbers {a} {m} {n} d e = let same : refusal m ≡ refusal n = cc in ap (λ (r : Refusal). r.number) same
 
-not-both : {a : Answer} {r : Reading} {n : ℕ} → a ≡ Done r → a ≡ Refused n → ⊥
+not-both : {a : Answer} {r : Reading} {n : ℕ} → a ≡ Ok r → a ≡ Err (refusal n) → ⊥
 not-both d e = let z : ◌≡◌ {A = ℕ} 0 1 = cc in omega arith
 
 not-seven : ◌≡◌ {A = ℕ} no.wrong_length no.out_of_range → ⊥
@@ -98,15 +96,15 @@ module _ (kind : Kind) (one two bytes : List ℕ) (t p h : ℕ) where
   abbrev fitting : Type 0
   fitting = stated.Lengths kind (length one) (length two) (length bytes)
 
-  wrong : fit ≡ false → answer ≡ Refused no.wrong_length
+  wrong : fit ≡ false → answer ≡ Err (refusal no.wrong_length)
   unfolding compensated_by
   wrong e = rw e
 
-  above : fit ≡ true → reg.are_codes t p h ≡ false → answer ≡ Refused no.out_of_range
+  above : fit ≡ true → reg.are_codes t p h ≡ false → answer ≡ Err (refusal no.out_of_range)
   unfolding compensated_by
   above e f = rw (e, f)
 
-  right : fit ≡ true → reg.are_codes t p h ≡ true → answer ≡ Done (reading_by kind (words_of one two) (counts_of bytes) t p h)
+  right : fit ≡ true → reg.are_codes t p h ≡ true → answer ≡ Ok (reading_by kind (words_of one two) (counts_of bytes) t p h)
   unfolding compensated_by
   right e f = rw (e, f)
 
@@ -146,14 +144,14 @@ module _ (kind : Kind) (one two bytes : List ℕ) (t p h : ℕ) where
 
 module _ (one two bytes : List ℕ) (t p h : ℕ) (r : Reading) where
   abbrev skipped : Answer → Type 0
-  skipped a = a ≡ Done r → r.humidity ≡ Missing (missing no.skipped)
+  skipped a = a ≡ Ok r → r.humidity ≡ Err (missing no.skipped)
 
-  of-reading : skipped (Done (reading_by Bmp280 (words_of one two) (counts_of bytes) t p h))
+  of-reading : skipped (Ok (reading_by Bmp280 (words_of one two) (counts_of bytes) t p h))
   of-reading d =
       let is : r ≡ reading_by Bmp280 (words_of one two) (counts_of bytes) t p h = cc in
       ap (λ (x : Reading). x.humidity) is
 
-  of-refusal : (n : ℕ) → skipped (Refused n)
+  of-refusal : (n : ℕ) → skipped (Err (refusal n))
   of-refusal n d = absurd (not-both d refl)
 
 pub no-humidity : stated.NoHumidity

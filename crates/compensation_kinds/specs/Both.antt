@@ -1,5 +1,5 @@
 -- What holds of compensation by the kind of part, of every call: statements (proofs/Both.antt).
-use Rattle.std.specs.Prelude.{ℕ, ◌≤◌, ◌≡◌, List, [], length, take}
+use Rattle.std.specs.Prelude.{ℕ, ◌≤◌, ◌≡◌, List, [], length, take, Ok, Err}
 use Rattle.paper.specs.Numbers as no
 use Rattle.paper.specs.Registers as reg
 use Rattle.kinds.specs.declared.Kind.{Kind}
@@ -9,12 +9,9 @@ use Rattle.data.specs.declared.Counts.{Counts}
 use Rattle.data.specs.Counts.{counts_of}
 use Rattle.calibration.specs.declared.Words.{Words}
 use Rattle.calibration.specs.Calibration.{words_of}
-use Rattle.formula.specs.declared.ChannelAnswer.TheVariants.{Missing}
-use Rattle.formula.specs.Answers.{missing}
+use Rattle.paper.specs.Answers.{missing, refusal}
 use Rattle.compensation.specs.declared.Reading.{Reading}
-use Rattle.compensation.specs.declared.Answer.{Answer}
-use Rattle.compensation.specs.declared.Answer.TheVariants.{Done, Refused}
-use Rattle.compensation.specs.Compensation.{compensated}
+use Rattle.compensation.specs.Compensation.{Answer, compensated}
 use Rattle.compensation_kinds.specs.Kinds.{reading_by, compensated_by}
 
 -- ---- the BME280's call is what it was
@@ -35,8 +32,8 @@ SameReadings = (a b : Kind) (words : Words) (counts : Counts) (t p h k : ℕ) �
 -- of calls: the BMP280's, with the same block one, an empty block two and the first six bytes, is answered as the BME280's, but that its humidity
 -- is 10; so it is refused where that is
 abbrev pub without_humidity : Answer → Answer
-without_humidity (Done r) = Done (record { temperature = r.temperature; pressure = r.pressure; humidity = Missing (missing no.skipped) })
-without_humidity (Refused n) = Refused n
+without_humidity (Ok r) = Ok (record { temperature = r.temperature; pressure = r.pressure; humidity = Err (missing no.skipped) })
+without_humidity (Err r) = Err r
 
 abbrev pub SameCalls : Type 0
 SameCalls =
@@ -47,7 +44,7 @@ SameCalls =
 
 abbrev pub NoHumidity : Type 0
 NoHumidity =
-    (one two bytes : List ℕ) (t p h : ℕ) (r : Reading) → compensated_by Bmp280 one two bytes t p h ≡ Done r → r.humidity ≡ Missing (missing no.skipped)
+    (one two bytes : List ℕ) (t p h : ℕ) (r : Reading) → compensated_by Bmp280 one two bytes t p h ≡ Ok r → r.humidity ≡ Err (missing no.skipped)
 
 -- ---- when a call is refused, of either kind
 
@@ -75,9 +72,9 @@ module _ (kind : Kind) (one two bytes : List ℕ) (t p h : ℕ) where
 
   pub record Decided : Type 0 where
     -- 2 exactly where a length is not the part's
-    pub by_lengths : Exactly (answer ≡ Refused no.wrong_length) (fitting → ⊥)
+    pub by_lengths : Exactly (answer ≡ Err (refusal no.wrong_length)) (fitting → ⊥)
     -- 7 exactly where the lengths are right and a code is above 7, the third included
-    pub by_codes : Exactly (answer ≡ Refused no.out_of_range) (fitting × (Codes t p h → ⊥))
+    pub by_codes : Exactly (answer ≡ Err (refusal no.out_of_range)) (fitting × (Codes t p h → ⊥))
     -- nothing else refuses: with right lengths and codes there is a reading, and no other number refuses
-    pub done : fitting → Codes t p h → answer ≡ Done (reading_by kind (words_of one two) (counts_of bytes) t p h)
-    pub no_other : (n : ℕ) → answer ≡ Refused n → (n ≡ no.wrong_length → ⊥) → n ≡ no.out_of_range
+    pub done : fitting → Codes t p h → answer ≡ Ok (reading_by kind (words_of one two) (counts_of bytes) t p h)
+    pub no_other : (n : ℕ) → answer ≡ Err (refusal n) → (n ≡ no.wrong_length → ⊥) → n ≡ no.out_of_range

@@ -1,5 +1,5 @@
 -- Compensation by the kind of part: both blocks, the data bytes and three oversampling codes. Lengths, and whether there is humidity, are the table's.
-use Rattle.std.specs.Prelude.{ℕ, Bool, cond, ◌&&◌, List, eqb, length}
+use Rattle.std.specs.Prelude.{ℕ, Bool, cond, ◌&&◌, List, eqb, length, Ok, Err}
 use Rattle.paper.specs.Numbers as no
 use Rattle.paper.specs.Registers as reg
 use Rattle.kinds.specs.declared.Kind.{Kind}
@@ -8,11 +8,8 @@ use Rattle.data.specs.declared.Counts.{Counts}
 use Rattle.data.specs.Counts.{counts_of}
 use Rattle.calibration.specs.declared.Words.{Words}
 use Rattle.calibration.specs.Calibration.{words_of}
-use Rattle.formula.specs.declared.ChannelAnswer.TheVariants.{Missing}
-use Rattle.formula.specs.Answers.{missing}
+use Rattle.paper.specs.Answers.{missing, refusal}
 use Rattle.compensation.specs.declared.Reading.{Reading}
-use Rattle.compensation.specs.declared.Answer.{Answer}
-use Rattle.compensation.specs.declared.Answer.TheVariants.{Done, Refused}
 use Rattle.compensation.specs.Compensation as comp
 
 -- temperature and pressure take the same steps in both kinds; where there is no humidity its channel is skipped, whatever its code
@@ -25,7 +22,7 @@ reading_by kind words counts t p h =
       humidity =
           cond (facts kind).humidity
           (comp.humidity_channel h temperature words.humidity counts.humidity)
-          (Missing (missing no.skipped));
+          (Err (missing no.skipped));
     }
 
 -- the lengths of block one, block two and the data
@@ -34,10 +31,10 @@ are_lengths kind one two bytes =
     eqb one (facts kind).one && (eqb two (facts kind).two && eqb bytes (facts kind).bytes)
 
 -- lengths are checked first (2), then the codes (7), the third too
-unfoldable pub compensated_by : Kind → List ℕ → List ℕ → List ℕ → ℕ → ℕ → ℕ → Answer
+unfoldable pub compensated_by : Kind → List ℕ → List ℕ → List ℕ → ℕ → ℕ → ℕ → comp.Answer
 compensated_by kind one two bytes t p h =
     cond (are_lengths kind (length one) (length two) (length bytes))
     (cond (reg.are_codes t p h)
-    (Done (reading_by kind (words_of one two) (counts_of bytes) t p h))
-    (Refused no.out_of_range))
-    (Refused no.wrong_length)
+    (Ok (reading_by kind (words_of one two) (counts_of bytes) t p h))
+    (Err (refusal no.out_of_range)))
+    (Err (refusal no.wrong_length))

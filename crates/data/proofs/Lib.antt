@@ -1,3 +1,2 @@
--- Why the counts may be taken out of one number, and why the layout goes both ways.
-pub mod Joined
+-- Why the layout goes both ways.
 pub mod RoundTrip

@@ -19,12 +19,7 @@ counts_of bytes =
       humidity = sixteen_bits (get_or bytes 6 0) (get_or bytes 7 0);
     }
 
--- ---- the same by way of one number of 64 bits, high byte first
-
-abbrev pub joined : ℕ → ℕ → ℕ → ℕ → ℕ → ℕ → ℕ → ℕ → ℕ
-joined b0 b1 b2 b3 b4 b5 b6 b7 =
-    b0 * 0x100000000000000 + b1 * 0x1000000000000 + b2 * 0x10000000000 + b3 * 0x100000000
-    + b4 * 0x1000000 + b5 * 0x10000 + b6 * 0x100 + b7
+-- ---- the same out of the eight bytes as one number of 64 bits, high byte first
 
 abbrev pub parted : ℕ → Counts
 parted all =

@@ -7,17 +7,19 @@ use mathlib.Core.Bool.{Bool, true, false, cond}
 use native.Mathlib.Omega.{arith}
 use native.Mathlib.Nat.{le_trans, le_refl, le-suc, mul-le-mul, le-div_iff_mul-le, div-mul-le_self}
 use lib.Pow.{pow_pos}
-use lib.Dec.{T, ltb, leb}
+use lib.Dec.{ltb, leb}
 use lib.IntN.{ℤ, pos, negsuc, neg_ℤ, nat_abs, sub_ℕ, ◌+ℤ◌, ◌-ℤ◌, ◌*ℤ◌}
 use lib.Signed.{mag, shr_z, quot_z}
 use mir.Syntax.{Width, w16, w32, w64}
-use mir.Val.{SFits, hbits, to_z, of_z}
-use mir.Facts.{to_z-of_z, sfits_widen}
+use mir.Val.{SFits, to_z, of_z}
+use mir.Facts.{to_z-of_z}
 use borrow.Author.Tests.{ltb-true, ltb-false, leb-true, lt-ltb}
+use Rattle.std.proofs.lemmas.Int.{unsigned_abs-mul}
+use Rattle.std.specs.Prelude.{Ok, Err}
 use Rattle.paper.specs.Numbers as no
+use Rattle.paper.specs.Answers.{missing}
 use Rattle.steps.specs.declared.Signed.{Signed}
 use Rattle.steps.specs.declared.Signed.TheVariants.{Bits32, Bits64}
-use Rattle.steps.specs.declared.Num.TheVariants.{Value, Broke}
 use Rattle.steps.specs.Step.{half_bits, kept, on_value, on_values, is_nonzero}
 use Rattle.steps.specs.Work.{Work, given, num, step₁, step₂, share, test, run}
 use Rattle.formula.specs.Plain.{Gives}
@@ -28,12 +30,6 @@ abs_neg : (x : ℤ) → nat_abs (neg_ℤ x) ≡ nat_abs x
 abs_neg (pos zero) = refl
 abs_neg (pos (suc n)) = refl
 abs_neg (negsuc n) = refl
-
-abs-times : (x y : ℤ) → nat_abs (x *ℤ y) ≡ nat_abs x * nat_abs y
-abs-times (pos a) (pos b) = refl
-abs-times (pos a) (negsuc b) = abs_neg (pos (a * suc b))
-abs-times (negsuc a) (pos b) = abs_neg (pos (suc a * b))
-abs-times (negsuc a) (negsuc b) = refl
 
 pub split : (a b : ℕ) (P : ℤ → Type 0) → (a < b → P (negsuc (b - suc a))) → (b ≤ a → P (pos (a - b))) → P (sub_ℕ a b)
 split a b P f g = go (ltb a b) refl
@@ -137,9 +133,6 @@ plainly {w} {n} h t = record { is = refl; size = h; room = ltb-true n (2 ^ half_
 abbrev pub Read : Signed → Width → ℕ → ℤ → Type 0
 Read w v n z = Gives w n (given z) (to_z v (of_z v z))
 
-pub widened : {v : Width} {z : ℤ} → T (leb (hbits v) 63) → SFits v z → SFits w64 (to_z v (of_z v z))
-widened t f = rw (to_z-of_z f) (sfits_widen t f)
-
 pub word : {w : Signed} {v : Width} {n : ℕ} {z : ℤ} → SFits v z → nat_abs z ≤ n → ltb n (2 ^ half_bits w) ≡ true → Read w v n z
 word f h t = rw (to_z-of_z f) (plainly h t)
 
@@ -161,7 +154,7 @@ step : {w : Signed} {n : ℕ} (e : Work) (z : ℤ) → run w e ≡ kept w z → 
 step {w} {n} e z h s t =
     let r = ltb-true n (2 ^ half_bits w) t in
     let k = mag-le z in
-    record { is = h ∙ ap (λ (b : Bool). cond b (Value z) (Broke no.left_its_type)) (lt-ltb (mag z) (2 ^ half_bits w) (omega arith)); size = s; room = r }
+    record { is = h ∙ ap (λ (b : Bool). cond b (Ok z) (Err (missing no.left_its_type))) (lt-ltb (mag z) (2 ^ half_bits w) (omega arith)); size = s; room = r }
 
 module _ {w : Signed} {m : ℕ} {a : Work} {x : ℤ} (p : Gives w m a x) where
   one : {k : ℕ} (f : ℤ → ℤ) → nat_abs (f x) ≤ k → ltb k (2 ^ half_bits w) ≡ true → Gives w k (step₁ f a) (f (local x))
@@ -169,7 +162,7 @@ module _ {w : Signed} {m : ℕ} {a : Work} {x : ℤ} (p : Gives w m a x) where
   one f s t = rw (back p) (step (step₁ f a) (f x) (rw p.is) s t)
 
   pub up : (k : ℕ) → ltb (m * 2 ^ k) (2 ^ half_bits w) ≡ true → Gives w (m * 2 ^ k) (step₁ (λ x. x *ℤ pos (2 ^ k)) a) (local x *ℤ pos (2 ^ k))
-  up k t = one (λ x. x *ℤ pos (2 ^ k)) (rw abs-times (mul-le-mul p.size (le_refl (2 ^ k)))) t
+  up k t = one (λ x. x *ℤ pos (2 ^ k)) (rw unsigned_abs-mul (mul-le-mul p.size (le_refl (2 ^ k)))) t
 
   pub down : (k : ℕ) → ltb (suc (m / 2 ^ k)) (2 ^ half_bits w) ≡ true → Gives w (suc (m / 2 ^ k)) (step₁ (λ x. shr_z x (2 ^ k)) a) (shr_z (local x) (2 ^ k))
   down k t =
@@ -188,7 +181,7 @@ module _ {w : Signed} {m n : ℕ} {a b : Work} {x y : ℤ} (p : Gives w m a x) (
   two f s t = rw (back p, back q) (step (step₂ f a b) (f x y) (rw (p.is, q.is)) s t)
 
   pub times : ltb (m * n) (2 ^ half_bits w) ≡ true → Gives w (m * n) (step₂ ◌*ℤ◌ a b) (local x *ℤ local y)
-  times t = two ◌*ℤ◌ (rw abs-times (mul-le-mul p.size q.size)) t
+  times t = two ◌*ℤ◌ (rw unsigned_abs-mul (mul-le-mul p.size q.size)) t
 
   -- a product that was tested
   pub times-within : (k : ℕ) → nat_abs (x *ℤ y) ≤ k → ltb k (2 ^ half_bits w) ≡ true → Gives w k (step₂ ◌*ℤ◌ a b) (local x *ℤ local y)
@@ -228,7 +221,3 @@ module _ {w : Signed} {m n : ℕ} {a b : Work} {x y : ℤ} (p : Gives w m a x) (
       two p (passing q is_nonzero no.divisor_zero (far-is y h k)) quot_z
       (rw abs-over ((le-div_iff_mul-le h).1 (le_trans (mul-le-mul (le_refl (nat_abs x / nat_abs y)) k) (le_trans (div-mul-le_self (nat_abs x) (nat_abs y)) p.size))))
       t
-
-pub bits-far : (y : ℤ) → SFits w64 y → {l : ℕ} → 0 < l → l ≤ nat_abs y → 0 < of_z w64 y
-bits-far (pos n) f h k = omega arith
-bits-far (negsuc n) f h k = let m = f.sfits in omega arith

@@ -1,22 +1,21 @@
 -- Where a plain road is taken, what it gives is the answer.
-use mathlib.Core.Path.{◌≡◌, sym, ap, ◌∙◌}
-use mathlib.Core.Bool.{Bool, true, false, true≢false}
-use Rattle.formula.specs.declared.TemperatureAnswer.{TemperatureAnswer}
-use Rattle.formula.specs.declared.TemperatureAnswer.TheVariants as heat
-use Rattle.formula.specs.declared.ChannelAnswer.{ChannelAnswer}
-use Rattle.formula.specs.declared.ChannelAnswer.TheVariants as channel
-use Rattle.formula.specs.declared.PlainTemperature.{PlainTemperature}
-use Rattle.formula.specs.declared.PlainChannel.{PlainChannel}
+use Prim.Native.Nat.{ℕ}
+use mathlib.Core.Path.{◌≡◌, sym, ◌∙◌}
+use mathlib.Core.Bool.{Bool, true, false}
+use Rattle.std.specs.Prelude.{Option, Some, Ok, Err}
+use Rattle.std.proofs.lemmas.Option.{none-some}
+use Rattle.formula.specs.declared.Temperature.{Temperature}
+use Rattle.formula.specs.Answers.{TemperatureAnswer, ChannelAnswer}
 use Rattle.formula.specs.Plain.{channel_plainly, temperature_plainly}
 
-pub taken-channel : (b : Bool) (a : ChannelAnswer) (r : PlainChannel) → r ≡ channel_plainly b a → r.taken ≡ true → a ≡ channel.Known r.value
+pub taken-channel : (b : Bool) (a : ChannelAnswer) (r : Option ℕ) (value : ℕ) → r ≡ channel_plainly b a → r ≡ Some value → a ≡ Ok value
 unfolding channel_plainly
-taken-channel true (channel.Known value) r e t = rw e
-taken-channel true (channel.Missing m) r e t = absurd (true≢false (sym t ∙ ap (λ (x : PlainChannel). x.taken) e))
-taken-channel false a r e t = absurd (true≢false (sym t ∙ ap (λ (x : PlainChannel). x.taken) e))
+taken-channel true (Ok x) r value e t = cc
+taken-channel true (Err m) r value e t = absurd (none-some value (sym e ∙ t))
+taken-channel false a r value e t = absurd (none-some value (sym e ∙ t))
 
-pub taken-temperature : (b : Bool) (a : TemperatureAnswer) (r : PlainTemperature) → r ≡ temperature_plainly b a → r.taken ≡ true → a ≡ heat.Known r.value r.fine
+pub taken-temperature : (b : Bool) (a : TemperatureAnswer) (r : Option Temperature) (value : Temperature) → r ≡ temperature_plainly b a → r ≡ Some value → a ≡ Ok value
 unfolding temperature_plainly
-taken-temperature true (heat.Known value fine) r e t = rw e
-taken-temperature true (heat.Missing m) r e t = absurd (true≢false (sym t ∙ ap (λ (x : PlainTemperature). x.taken) e))
-taken-temperature false a r e t = absurd (true≢false (sym t ∙ ap (λ (x : PlainTemperature). x.taken) e))
+taken-temperature true (Ok x) r value e t = cc
+taken-temperature true (Err m) r value e t = absurd (none-some value (sym e ∙ t))
+taken-temperature false a r value e t = absurd (none-some value (sym e ∙ t))

@@ -1,38 +1,38 @@
 -- The answer of a channel, made of a formula's last number; and the paper's number and values of it.
-use Rattle.std.specs.Prelude.{ℕ, [], ◌∷◌, pos, nat_abs}
+use Rattle.std.specs.Prelude.{ℕ, [], ◌∷◌, pos, nat_abs, Result, Ok, Err}
 use Rattle.paper.specs.Numbers as no
 use Rattle.paper.specs.Answers.{SignedAnswer, given, refused}
-use Rattle.steps.specs.declared.Num.{Num}
-use Rattle.steps.specs.declared.Num.TheVariants.{Value, Broke}
-use Rattle.formula.specs.declared.Missing.{Missing}
-use Rattle.formula.specs.declared.TemperatureAnswer.{TemperatureAnswer}
-use Rattle.formula.specs.declared.TemperatureAnswer.TheVariants as heat
-use Rattle.formula.specs.declared.ChannelAnswer.{ChannelAnswer}
-use Rattle.formula.specs.declared.ChannelAnswer.TheVariants as channel
+use Rattle.paper.specs.declared.Missing.{Missing}
+use Rattle.steps.specs.Step.{Num}
+use Rattle.formula.specs.declared.Temperature.{Temperature}
 
--- what stands in a channel's place
-abbrev pub missing : ℕ → Missing
-missing number = record { number = number }
+-- a temperature, or what stands in its place
+abbrev pub TemperatureAnswer : Type 0
+TemperatureAnswer = Result Temperature Missing
+
+-- a pressure or a humidity, or what stands in its place
+abbrev pub ChannelAnswer : Type 0
+ChannelAnswer = Result ℕ Missing
 
 -- the answer of pressure and humidity
 abbrev pub answered : Num → ChannelAnswer
-answered (Value z) = channel.Known (nat_abs z)
-answered (Broke number) = channel.Missing (missing number)
+answered (Ok z) = Ok (nat_abs z)
+answered (Err m) = Err m
 
--- the paper's number and values for each case of the enums: the fine temperature goes with the temperature
+-- the paper's number and values for each case: the fine temperature goes with the temperature
 unfoldable pub temperature_answer : TemperatureAnswer → SignedAnswer
-temperature_answer (heat.Known value fine) = given (value ∷ fine ∷ [])
-temperature_answer (heat.Missing m) = refused m.number
+temperature_answer (Ok t) = given (t.value ∷ t.fine ∷ [])
+temperature_answer (Err m) = refused m.number
 
 unfoldable pub channel_answer : ChannelAnswer → SignedAnswer
-channel_answer (channel.Known value) = given (pos value ∷ [])
-channel_answer (channel.Missing m) = refused m.number
+channel_answer (Ok value) = given (pos value ∷ [])
+channel_answer (Err m) = refused m.number
 
 -- the number alone
 abbrev pub temperature_number : TemperatureAnswer → ℕ
-temperature_number (heat.Known value fine) = no.done
-temperature_number (heat.Missing m) = m.number
+temperature_number (Ok t) = no.done
+temperature_number (Err m) = m.number
 
 abbrev pub channel_number : ChannelAnswer → ℕ
-channel_number (channel.Known value) = no.done
-channel_number (channel.Missing m) = m.number
+channel_number (Ok value) = no.done
+channel_number (Err m) = m.number

@@ -6,18 +6,17 @@ use mathlib.Core.List.{List, [], ◌∷◌}
 use native.Mathlib.Omega.{arith}
 use lib.IntN.{ℤ, pos, negsuc, nat_abs}
 use lib.ListN.{get_or}
+use Rattle.std.specs.Prelude.{Ok, Err}
 use Rattle.laws.specs.Tests.{both}
 use Rattle.steps.specs.declared.Signed.{Signed}
 use Rattle.steps.specs.declared.Signed.TheVariants.{Bits32, Bits64}
-use Rattle.steps.specs.declared.Num.{Num}
-use Rattle.steps.specs.declared.Num.TheVariants.{Value, Broke}
+use Rattle.steps.specs.Step.{Num}
 use Rattle.steps.specs.Needs.{Need, hold, met, all_met, verdict, ◌>>ℤ◌}
 use Rattle.steps.specs.Work.{plain}
 use Rattle.steps.proofs.Exactness.{met-value, value-met}
 use Rattle.calibration.specs.declared.PressureWords.{PressureWords}
 use Rattle.calibration.specs.declared.HumidityWords.{HumidityWords}
-use Rattle.formula.specs.declared.TemperatureAnswer.TheVariants as temperature
-use Rattle.formula.specs.declared.ChannelAnswer.TheVariants as channel
+use Rattle.formula.specs.declared.Temperature.{Temperature}
 use Rattle.formula.specs.Answers.{answered}
 use Rattle.formula_temperature.specs.Temperature as t
 use Rattle.formula_temperature.specs.Needs.{temperature_needs}
@@ -33,15 +32,15 @@ use Rattle.formula_exact.specs.Exact as exact
 -- ---- temperature
 
 module _ (ds : List Need) (v f : ℤ) where
-  temperature-known : (value fine : ℤ) → t.with_fine f (verdict Bits32 ds v) ≡ temperature.Known value fine → (value ≡ v) × (fine ≡ f) × (all_met Bits32 ds ≡ true)
+  temperature-known : (value fine : ℤ) → t.with_fine f (verdict Bits32 ds v) ≡ Ok (record { value = value; fine = fine }) → (value ≡ v) × (fine ≡ f) × (all_met Bits32 ds ≡ true)
   temperature-known value fine e = go (verdict Bits32 ds v) refl e
     where
-      go : (a : Num) → verdict Bits32 ds v ≡ a → t.with_fine f a ≡ temperature.Known value fine → (value ≡ v) × (fine ≡ f) × (all_met Bits32 ds ≡ true)
-      go (Value x) is k =
+      go : (a : Num) → verdict Bits32 ds v ≡ a → t.with_fine f a ≡ Ok (record { value = value; fine = fine }) → (value ≡ v) × (fine ≡ f) × (all_met Bits32 ds ≡ true)
+      go (Ok x) is k =
           let q = value-met Bits32 ds v x is in
-          let same : x ≡ value = cc in
-          (sym same ∙ q.1, cc, q.0)
-      go (Broke n) is k = (cc, cc, cc)
+          let same : ◌≡◌ {A = Temperature} (record { value = value; fine = fine }) (record { value = x; fine = f }) = cc in
+          (ap (λ (t : Temperature). t.value) same ∙ q.1, ap (λ (t : Temperature). t.fine) same, q.0)
+      go (Err m) is k = (cc, cc, cc)
 
 pub temperature-given : exact.TemperatureGiven
 temperature-given words count value fine = (
@@ -55,17 +54,17 @@ temperature-given words count value fine = (
 -- ---- pressure and humidity
 
 -- an answer that is known is the value without its sign
-channel-known : (w : Signed) (ds : List Need) (v : ℤ) (value : ℕ) → answered (verdict w ds v) ≡ channel.Known value → (value ≡ nat_abs v) × (all_met w ds ≡ true)
+channel-known : (w : Signed) (ds : List Need) (v : ℤ) (value : ℕ) → answered (verdict w ds v) ≡ Ok value → (value ≡ nat_abs v) × (all_met w ds ≡ true)
 channel-known w ds v value e = go (verdict w ds v) refl e
   where
-    go : (a : Num) → verdict w ds v ≡ a → answered a ≡ channel.Known value → (value ≡ nat_abs v) × (all_met w ds ≡ true)
-    go (Value x) is k =
+    go : (a : Num) → verdict w ds v ≡ a → answered a ≡ Ok value → (value ≡ nat_abs v) × (all_met w ds ≡ true)
+    go (Ok x) is k =
         let q = value-met w ds v x is in
         let same : nat_abs x ≡ value = cc in
         (sym same ∙ ap nat_abs q.1, q.0)
-    go (Broke n) is k = (cc, cc)
+    go (Err m) is k = (cc, cc)
 
-known-channel : (w : Signed) (ds : List Need) (v : ℤ) (value : ℕ) → all_met w ds ≡ true → pos value ≡ v → answered (verdict w ds v) ≡ channel.Known value
+known-channel : (w : Signed) (ds : List Need) (v : ℤ) (value : ℕ) → all_met w ds ≡ true → pos value ≡ v → answered (verdict w ds v) ≡ Ok value
 known-channel w ds v value m e = rw (met-value w ds v m, ← e)
 
 -- where all are met, so is each
@@ -117,7 +116,7 @@ module _ (words : HumidityWords) (fine : ℤ) (count : ℕ) where
   plain-le : nat_abs (h.plain_humidity words fine count) ≤ 102400
   plain-le = rw plain-clamped (clamped-le (plain (h.humidity_lines words fine count)))
 
-  humidity-known : (value : ℕ) → h.humidity_of words fine count ≡ channel.Known value → (value ≡ nat_abs (h.plain_humidity words fine count)) × (all_met Bits32 (humidity_needs words fine count) ≡ true)
+  humidity-known : (value : ℕ) → h.humidity_of words fine count ≡ Ok value → (value ≡ nat_abs (h.plain_humidity words fine count)) × (all_met Bits32 (humidity_needs words fine count) ≡ true)
   humidity-known value e = channel-known Bits32 (humidity_needs words fine count) (h.plain_humidity words fine count) value (sym (humidity-table.first-decides words fine count) ∙ e)
 
 pub humidity-given : exact.HumidityGiven

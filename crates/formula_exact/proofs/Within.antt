@@ -1,5 +1,5 @@
 -- The last needs of each table bound what an answer holds, and each need has its number.
-use Prim.Native.Nat.{ℕ, ◌≤◌}
+use Prim.Native.Nat.{ℕ}
 use mathlib.Core.Path.{◌≡◌, refl, sym, ap, subst, ◌∙◌}
 use mathlib.Core.Bool.{Bool, true, false, cond, ◌&&◌}
 use mathlib.Core.List.{List, [], ◌∷◌}
@@ -7,19 +7,17 @@ use native.Mathlib.Omega.{arith}
 use lib.Dec.{leb}
 use lib.IntN.{ℤ}
 use borrow.Author.Tests.{leb-true}
+use Rattle.std.specs.Prelude.{Ok, Err}
 use Rattle.laws.specs.Tests.{both}
+use Rattle.paper.specs.Answers.{missing}
+use Rattle.paper.specs.declared.Missing.{Missing}
 use Rattle.steps.specs.declared.Signed.{Signed}
 use Rattle.steps.specs.declared.Signed.TheVariants.{Bits32, Bits64}
-use Rattle.steps.specs.declared.Num.{Num}
-use Rattle.steps.specs.declared.Num.TheVariants.{Value, Broke}
-use Rattle.steps.specs.Step.{fits}
+use Rattle.steps.specs.Step.{Num, fits}
 use Rattle.steps.specs.Needs.{Need, number, met, all_met, verdict}
 use Rattle.calibration.specs.declared.TemperatureWords.{TemperatureWords}
 use Rattle.calibration.specs.declared.PressureWords.{PressureWords}
 use Rattle.calibration.specs.declared.HumidityWords.{HumidityWords}
-use Rattle.formula.specs.declared.Missing.{Missing}
-use Rattle.formula.specs.declared.TemperatureAnswer.TheVariants as temperature
-use Rattle.formula.specs.declared.ChannelAnswer.TheVariants as channel
 use Rattle.formula.specs.Answers.{answered}
 use Rattle.formula_temperature.specs.Temperature as t
 use Rattle.formula_temperature.specs.Needs.{temperature_needs}
@@ -65,34 +63,34 @@ module _ (low high : ℕ) where
   numbered [] = true
   numbered (d ∷ ds) = (leb low (number d) && leb (number d) high) && numbered ds
 
-  broke : (w : Signed) (ds : List Need) (z : ℤ) (n : ℕ) → numbered ds ≡ true → verdict w ds z ≡ Broke n → (low ≤ n) × (n ≤ high)
+  broke : (w : Signed) (ds : List Need) (z : ℤ) (m : Missing) → numbered ds ≡ true → verdict w ds z ≡ Err m → Within low high m
   unfolding verdict numbered
-  broke w [] z n a e = never cc
-  broke w (d ∷ ds) z n a e = go (met w d) (both (leb low (number d) && leb (number d) high) (numbered ds) a) (broke w ds z n) e
+  broke w [] z m a e = never cc
+  broke w (d ∷ ds) z m a e = go (met w d) (both (leb low (number d) && leb (number d) high) (numbered ds) a) (broke w ds z m) e
     where
       go : (t : Bool) → (leb low (number d) && leb (number d) high ≡ true) × (numbered ds ≡ true)
-          → (numbered ds ≡ true → verdict w ds z ≡ Broke n → (low ≤ n) × (n ≤ high))
-          → cond t (verdict w ds z) (Broke (number d)) ≡ Broke n → (low ≤ n) × (n ≤ high)
+          → (numbered ds ≡ true → verdict w ds z ≡ Err m → Within low high m)
+          → cond t (verdict w ds z) (Err (missing (number d))) ≡ Err m → Within low high m
       go true k later h = later k.1 h
       go false k later h =
-          let same : number d ≡ n = cc in
+          let same : missing (number d) ≡ m = cc in
           let b = both (leb low (number d)) (leb (number d) high) k.0 in
-          subst (λ (i : ℕ). (low ≤ i) × (i ≤ high)) same (leb-true low (number d) b.0, leb-true (number d) high b.1)
+          subst (Within low high) same (leb-true low (number d) b.0, leb-true (number d) high b.1)
 
   -- an answer that is missing has the verdict's number
-  temperature-broke : (ds : List Need) (v f : ℤ) (m : Missing) → numbered ds ≡ true → t.with_fine f (verdict Bits32 ds v) ≡ temperature.Missing m → Within low high m
+  temperature-broke : (ds : List Need) (v f : ℤ) (m : Missing) → numbered ds ≡ true → t.with_fine f (verdict Bits32 ds v) ≡ Err m → Within low high m
   temperature-broke ds v f m a e = go (verdict Bits32 ds v) refl e
     where
-      go : (x : Num) → verdict Bits32 ds v ≡ x → t.with_fine f x ≡ temperature.Missing m → Within low high m
-      go (Value x) is k = never cc
-      go (Broke n) is k = let same : n ≡ m.number = cc in subst (λ (i : ℕ). (low ≤ i) × (i ≤ high)) same (broke Bits32 ds v n a is)
+      go : (x : Num) → verdict Bits32 ds v ≡ x → t.with_fine f x ≡ Err m → Within low high m
+      go (Ok x) is k = never cc
+      go (Err n) is k = let same : n ≡ m = cc in subst (Within low high) same (broke Bits32 ds v n a is)
 
-  channel-broke : (w : Signed) (ds : List Need) (v : ℤ) (m : Missing) → numbered ds ≡ true → answered (verdict w ds v) ≡ channel.Missing m → Within low high m
+  channel-broke : (w : Signed) (ds : List Need) (v : ℤ) (m : Missing) → numbered ds ≡ true → answered (verdict w ds v) ≡ Err m → Within low high m
   channel-broke w ds v m a e = go (verdict w ds v) refl e
     where
-      go : (x : Num) → verdict w ds v ≡ x → answered x ≡ channel.Missing m → Within low high m
-      go (Value x) is k = never cc
-      go (Broke n) is k = let same : n ≡ m.number = cc in subst (λ (i : ℕ). (low ≤ i) × (i ≤ high)) same (broke w ds v n a is)
+      go : (x : Num) → verdict w ds v ≡ x → answered x ≡ Err m → Within low high m
+      go (Ok x) is k = never cc
+      go (Err n) is k = let same : n ≡ m = cc in subst (Within low high) same (broke w ds v n a is)
 
 temperature-numbered : (words : TemperatureWords) (count : ℕ) → numbered 12 12 (temperature_needs words count) ≡ true
 unfolding numbered temperature_needs

@@ -5,8 +5,7 @@ use Rattle.steps.specs.declared.Signed.TheVariants.{Bits32}
 use Rattle.steps.specs.Work.{Work, given, num, share, run, ◌+ʷ◌, ◌-ʷ◌, ◌*ʷ◌, ◌<<◌, ◌>>◌}
 use Rattle.steps.specs.Needs.{◌<<ℤ◌, ◌>>ℤ◌}
 use Rattle.calibration.specs.declared.HumidityWords.{HumidityWords}
-use Rattle.formula.specs.declared.ChannelAnswer.{ChannelAnswer}
-use Rattle.formula.specs.Answers.{answered}
+use Rattle.formula.specs.Answers.{ChannelAnswer, answered}
 
 -- v = (t_fine - 76800);
 unfoldable pub difference_line : ℤ → Work

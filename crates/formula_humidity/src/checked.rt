@@ -4,15 +4,12 @@ ghost use Rattle.formula_humidity.specs.Humidity.{humidity_of};
 
 use super::lines;
 use calibration::HumidityWords;
-use formula::{ChannelAnswer, Missing};
-use steps::Num;
+use formula::ChannelAnswer;
 
 // The humidity.
+#[tactic(auto, using(steps::proofs::Laws::back), unfolding(steps::specs::Work::run, steps::specs::Step::on_value, crate::specs::Humidity::humidity_formula, crate::specs::Humidity::humidity_of))]
 pub fn humidity(words: HumidityWords, fine: i32, count: u32) -> ChannelAnswer
     ensures { result ≡ humidity_of words fine count }
 {
-    match lines::humidity(words, fine, count) {
-        Num::Broke(n) => ChannelAnswer::Missing(Missing { number: n }),
-        Num::Value(v) => lines::last(v),
-    }
+    Ok(lines::last(lines::humidity(words, fine, count)?))
 }

@@ -15,30 +15,26 @@ mod lines;
 mod plain;
 
 use calibration::HumidityWords;
-use formula::{ChannelAnswer, PlainChannel};
+use formula::ChannelAnswer;
 
 // The humidity of a count, with the chip's words and the fine temperature.
 // What the plain road does not answer the checked road does.
 pub fn humidity(words: HumidityWords, fine: i32, count: u32) -> ChannelAnswer
     ensures { channel_answer result ≡ channel_answer (humidity_of words fine count) }
 {
-    let plain = humidity_plainly(words, fine, count);
-    if plain.taken {
-        return ChannelAnswer::Known(plain.value);
+    if let Some(plain) = humidity_plainly(words, fine, count) {
+        return Ok(plain);
     }
     checked::humidity(words, fine, count)
 }
 
 // What the plain road gives of a count.
 // It is taken where what comes in is usual and the product is small.
-pub fn humidity_plainly(words: HumidityWords, fine: i32, count: u32) -> PlainChannel
+pub fn humidity_plainly(words: HumidityWords, fine: i32, count: u32) -> Option<u32>
     ensures { result ≡ channel_plainly (is_taken words fine count) (humidity_of words fine count) }
 {
     if guards::is_plain(words, fine, count) {
         return plain::humidity(words, fine, count);
     }
-    PlainChannel {
-        taken: false,
-        value: 0,
-    }
+    None
 }

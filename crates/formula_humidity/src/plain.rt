@@ -7,7 +7,6 @@ ghost use Rattle.formula_humidity.specs.Humidity.{level_factor, bend_factor, gai
 
 use super::{guards, lines};
 use calibration::HumidityWords;
-use formula::{PlainChannel, take};
 
 // The product's first factor.
 fn level(words: HumidityWords, count: u32, v: i64) -> i64
@@ -50,17 +49,14 @@ fn correct(words: HumidityWords, v: i64) -> i64
 
 // The humidity, where the fine temperature and the words are usual and the count has its sixteen bits.
 // The road ends where the product is not small.
-pub(crate) fn humidity(words: HumidityWords, fine: i32, count: u32) -> PlainChannel
+pub(crate) fn humidity(words: HumidityWords, fine: i32, count: u32) -> Option<u32>
     requires { Plain words fine count }
     ensures { result ≡ channel_plainly (multiplies words fine count) (humidity_of words fine count) }
 {
     let difference = fine as i64 - 76800;
     let product = level(words, count, difference) * gain(words, difference);
     if guards::is_small(product) {
-        return take(lines::last(correct(words, product)));
+        return Some(lines::last(correct(words, product)));
     }
-    PlainChannel {
-        taken: false,
-        value: 0,
-    }
+    None
 }

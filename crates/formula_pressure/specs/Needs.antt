@@ -1,14 +1,13 @@
 -- The needs of the pressure, step by step in the order of evaluation that the maker's brackets give, operands left first: 35 steps, with the
 -- zero test where the maker has it, and the test of the range after the last step.
-use Rattle.std.specs.Prelude.{ℕ, ◌≡◌, List, [], ◌∷◌, ℤ, pos, negsuc, ◌+ℤ◌, ◌-ℤ◌, ◌*ℤ◌}
+use Rattle.std.specs.Prelude.{ℕ, ◌≡◌, List, [], ◌∷◌, ℤ, pos, negsuc, ◌+ℤ◌, ◌-ℤ◌, ◌*ℤ◌, Err}
 use Rattle.paper.specs.Numbers as no
+use Rattle.paper.specs.Answers.{missing}
 use Rattle.steps.specs.declared.Signed.TheVariants.{Bits64}
-use Rattle.steps.specs.declared.Num.TheVariants.{Broke}
 use Rattle.steps.specs.Step.{is_nonzero}
 use Rattle.steps.specs.Needs.{Need, fit, hold, step, check, verdict, ◌/ℤ◌, ◌<<ℤ◌, ◌>>ℤ◌}
 use Rattle.calibration.specs.declared.PressureWords.{PressureWords}
-use Rattle.formula.specs.declared.ChannelAnswer.TheVariants.{Missing}
-use Rattle.formula.specs.Answers.{missing, answered}
+use Rattle.formula.specs.Answers.{answered}
 use Rattle.formula_pressure.specs.Pressure.{is_pressure, pressure_of, plain_pressure}
 
 unfoldable pub pressure_needs : PressureWords → ℤ → ℕ → List Need
@@ -105,5 +104,5 @@ words = record {
 
 -- at the fine temperature 128422 and the count 0 the divisor is zero, and a step after the zero test leaves its type: the test decides
 pub record ZeroTestFirst : Type 0 where
-  pub zero-decides : pressure_of words (pos 128422) 0 ≡ Missing (missing no.divisor_zero)
-  pub step-fails-too : (z : ℤ) → verdict Bits64 (steps_alone (pressure_needs words (pos 128422) 0)) z ≡ Broke no.left_its_type
+  pub zero-decides : pressure_of words (pos 128422) 0 ≡ Err (missing no.divisor_zero)
+  pub step-fails-too : (z : ℤ) → verdict Bits64 (steps_alone (pressure_needs words (pos 128422) 0)) z ≡ Err (missing no.left_its_type)

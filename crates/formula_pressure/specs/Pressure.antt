@@ -6,8 +6,7 @@ use Rattle.steps.specs.Step.{is_nonzero}
 use Rattle.steps.specs.Work.{Work, given, num, share, test, run, ◌+ʷ◌, ◌-ʷ◌, ◌*ʷ◌, ◌/ʷ◌, ◌<<◌, ◌>>◌}
 use Rattle.steps.specs.Needs.{◌/ℤ◌, ◌<<ℤ◌, ◌>>ℤ◌}
 use Rattle.calibration.specs.declared.PressureWords.{PressureWords}
-use Rattle.formula.specs.declared.ChannelAnswer.{ChannelAnswer}
-use Rattle.formula.specs.Answers.{answered}
+use Rattle.formula.specs.Answers.{ChannelAnswer, answered}
 
 -- var1 = t_fine - 128000;
 unfoldable pub difference_line : ℤ → Work

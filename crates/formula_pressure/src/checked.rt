@@ -4,15 +4,12 @@ ghost use Rattle.formula_pressure.specs.Pressure.{pressure_of};
 
 use super::lines;
 use calibration::PressureWords;
-use formula::{ChannelAnswer, Missing};
-use steps::Num;
+use formula::ChannelAnswer;
 
 // The pressure.
+#[tactic(auto, using(steps::proofs::Laws::back), unfolding(steps::specs::Work::run, steps::specs::Step::on_value, crate::specs::Pressure::pressure_formula, crate::specs::Pressure::pressure_of))]
 pub fn pressure(words: PressureWords, fine: i32, count: u32) -> ChannelAnswer
     ensures { result ≡ pressure_of words fine count }
 {
-    match lines::pressure(words, fine, count) {
-        Num::Broke(n) => ChannelAnswer::Missing(Missing { number: n }),
-        Num::Value(p) => lines::in_range(p),
-    }
+    lines::in_range(lines::pressure(words, fine, count)?)
 }

@@ -15,30 +15,26 @@ mod lines;
 mod plain;
 
 use calibration::PressureWords;
-use formula::{ChannelAnswer, PlainChannel};
+use formula::ChannelAnswer;
 
 // The pressure of a count, with the chip's words and the fine temperature.
 // What the plain road does not answer the checked road does.
 pub fn pressure(words: PressureWords, fine: i32, count: u32) -> ChannelAnswer
     ensures { channel_answer result ≡ channel_answer (pressure_of words fine count) }
 {
-    let plain = pressure_plainly(words, fine, count);
-    if plain.taken {
-        return ChannelAnswer::Known(plain.value);
+    if let Some(plain) = pressure_plainly(words, fine, count) {
+        return Ok(plain);
     }
     checked::pressure(words, fine, count)
 }
 
 // What the plain road gives of a count.
 // It is taken where what comes in, the dividend and the divisor are usual, and the pressure lies from 0 to 4294967295.
-pub fn pressure_plainly(words: PressureWords, fine: i32, count: u32) -> PlainChannel
+pub fn pressure_plainly(words: PressureWords, fine: i32, count: u32) -> Option<u32>
     ensures { result ≡ channel_plainly (is_taken words fine count) (pressure_of words fine count) }
 {
     if guards::is_plain(words.p1, fine, count) {
         return plain::pressure(words, fine, count);
     }
-    PlainChannel {
-        taken: false,
-        value: 0,
-    }
+    None
 }

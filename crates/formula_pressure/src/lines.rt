@@ -8,7 +8,8 @@ ghost use Rattle.formula.specs.Answers.{answered};
 ghost use Rattle.formula_pressure.specs.Pressure.{offset_lines, divisor_lines, quotient_lines, curve_line, slope_line, last_line, refined_lines, pressure_lines, is_pressure};
 
 use calibration::PressureWords;
-use formula::{ChannelAnswer, Missing, difference, signed16, unsigned};
+use formula::{ChannelAnswer, difference, number};
+use paper::Missing;
 use steps::{Num, Signed, add, divide, multiply, refuse_zero, shift_left, shift_right, subtract};
 
 // The maker's var2, in its three lines, from the first var1.
@@ -16,10 +17,10 @@ fn offset(words: PressureWords, difference: i64) -> Num
     ensures { result ≡ run Bits64 (offset_lines words difference) }
 {
     let w = Signed::Bits64;
-    let p4 = signed16(words.p4);
-    let p5 = signed16(words.p5);
-    let p6 = signed16(words.p6);
-    let var1 = Num::Value(difference);
+    let p4 = number(words.p4);
+    let p5 = number(words.p5);
+    let p6 = number(words.p6);
+    let var1 = Ok(difference);
     let square = multiply(w, multiply(w, var1, var1), p6);
     let line = shift_left(w, multiply(w, var1, p5), 17);
     add(w, add(w, square, line), shift_left(w, p4, 35))
@@ -30,13 +31,13 @@ fn divisor(words: PressureWords, difference: i64) -> Num
     ensures { result ≡ run Bits64 (divisor_lines words difference) }
 {
     let w = Signed::Bits64;
-    let p1 = unsigned(words.p1 as u32);
-    let p2 = signed16(words.p2);
-    let p3 = signed16(words.p3);
-    let var1 = Num::Value(difference);
+    let p1 = number(words.p1);
+    let p2 = number(words.p2);
+    let p3 = number(words.p3);
+    let var1 = Ok(difference);
     let square = shift_right(w, multiply(w, multiply(w, var1, var1), p3), 8);
     let line = shift_left(w, multiply(w, var1, p2), 12);
-    let sum = add(w, shift_left(w, Num::Value(1), 47), add(w, square, line));
+    let sum = add(w, shift_left(w, Ok(1), 47), add(w, square, line));
     refuse_zero(shift_right(w, multiply(w, sum, p1), 33))
 }
 
@@ -45,9 +46,9 @@ fn quotient(count: u32, var2: i64, var1: i64) -> Num
     ensures { result ≡ run Bits64 (quotient_lines count var2 var1) }
 {
     let w = Signed::Bits64;
-    let p = subtract(w, Num::Value(1048576), unsigned(count));
-    let above = subtract(w, shift_left(w, p, 31), Num::Value(var2));
-    divide(w, multiply(w, above, Num::Value(3125)), Num::Value(var1))
+    let p = subtract(w, Ok(1048576), number(count));
+    let above = subtract(w, shift_left(w, p, 31), Ok(var2));
+    divide(w, multiply(w, above, Ok(3125)), Ok(var1))
 }
 
 // The maker's third var1, with P9.
@@ -55,8 +56,8 @@ fn curve(words: PressureWords, p: i64) -> Num
     ensures { result ≡ run Bits64 (curve_line words p) }
 {
     let w = Signed::Bits64;
-    let p9 = signed16(words.p9);
-    let coarse = shift_right(w, Num::Value(p), 13);
+    let p9 = number(words.p9);
+    let coarse = shift_right(w, Ok(p), 13);
     shift_right(w, multiply(w, multiply(w, p9, coarse), coarse), 25)
 }
 
@@ -65,7 +66,7 @@ fn slope(words: PressureWords, p: i64) -> Num
     ensures { result ≡ run Bits64 (slope_line words p) }
 {
     let w = Signed::Bits64;
-    shift_right(w, multiply(w, signed16(words.p8), Num::Value(p)), 19)
+    shift_right(w, multiply(w, number(words.p8), Ok(p)), 19)
 }
 
 // The maker's last line: P7 times 16 is added after the shift by 8.
@@ -73,46 +74,30 @@ fn last(words: PressureWords, p: i64, var1: i64, var2: i64) -> Num
     ensures { result ≡ run Bits64 (last_line words p var1 var2) }
 {
     let w = Signed::Bits64;
-    let p7 = signed16(words.p7);
-    let sum = add(w, add(w, Num::Value(p), Num::Value(var1)), Num::Value(var2));
+    let p7 = number(words.p7);
+    let sum = add(w, add(w, Ok(p), Ok(var1)), Ok(var2));
     add(w, shift_right(w, sum, 8), shift_left(w, p7, 4))
 }
 
 // The lines after the division.
+#[tactic(auto, using(steps::proofs::Laws::back), unfolding(steps::specs::Work::run, steps::specs::Step::on_value, crate::specs::Pressure::refined_lines))]
 fn refine(words: PressureWords, p: i64) -> Num
     ensures { result ≡ run Bits64 (refined_lines words p) }
 {
-    let a = curve(words, p);
-    let Num::Value(var1) = a else {
-        return a;
-    };
-    let b = slope(words, p);
-    let Num::Value(var2) = b else {
-        return b;
-    };
+    let var1 = curve(words, p)?;
+    let var2 = slope(words, p)?;
     last(words, p, var1, var2)
 }
 
 // The lines one after the other: the first refusal decides.
+#[tactic(auto, using(steps::proofs::Laws::back), unfolding(steps::specs::Work::run, steps::specs::Step::on_value, crate::specs::Pressure::difference_line, crate::specs::Pressure::pressure_lines))]
 pub fn pressure(words: PressureWords, fine: i32, count: u32) -> Num
     ensures { result ≡ run Bits64 (pressure_lines words fine count) }
 {
-    let a = difference(Signed::Bits64, fine, 128000);
-    let Num::Value(x) = a else {
-        return a;
-    };
-    let b = offset(words, x);
-    let Num::Value(var2) = b else {
-        return b;
-    };
-    let d = divisor(words, x);
-    let Num::Value(var1) = d else {
-        return d;
-    };
-    let e = quotient(count, var2, var1);
-    let Num::Value(p) = e else {
-        return e;
-    };
+    let difference = difference(Signed::Bits64, fine, 128000)?;
+    let var2 = offset(words, difference)?;
+    let var1 = divisor(words, difference)?;
+    let p = quotient(count, var2, var1)?;
     refine(words, p)
 }
 
@@ -120,15 +105,11 @@ pub fn pressure(words: PressureWords, fine: i32, count: u32) -> Num
 pub fn in_range(p: i64) -> ChannelAnswer
     ensures { result ≡ answered (passed (is_pressure p) no.pressure_outside p) }
 {
-    if p < 0 {
-        return ChannelAnswer::Missing(Missing {
+    // `u32::try_from` takes nine instructions more, and real air comes this way.
+    if p < 0 || p > 4294967295 {
+        return Err(Missing {
             number: paper::PRESSURE_OUTSIDE,
         });
     }
-    if p > 4294967295 {
-        return ChannelAnswer::Missing(Missing {
-            number: paper::PRESSURE_OUTSIDE,
-        });
-    }
-    ChannelAnswer::Known(p as u32)
+    Ok(p as u32)
 }

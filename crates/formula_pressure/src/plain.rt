@@ -7,7 +7,6 @@ ghost use Rattle.formula_pressure.specs.Pressure.{offset_lines, scale_lines, ref
 
 use super::{guards, lines};
 use calibration::PressureWords;
-use formula::{PlainChannel, take};
 
 // The offset that the dividend loses.
 fn offset(words: PressureWords, difference: i64) -> i64
@@ -63,7 +62,7 @@ fn refine(words: PressureWords, p: i64) -> i64
 
 // The pressure, where the fine temperature and P1 are usual and the count has its twenty bits.
 // The road ends before a division whose quotient may not be small.
-pub(crate) fn pressure(words: PressureWords, fine: i32, count: u32) -> PlainChannel
+pub(crate) fn pressure(words: PressureWords, fine: i32, count: u32) -> Option<u32>
     requires { Plain words.p1 fine count }
     ensures { result ≡ channel_plainly (divides words fine count) (pressure_of words fine count) }
 {
@@ -72,10 +71,7 @@ pub(crate) fn pressure(words: PressureWords, fine: i32, count: u32) -> PlainChan
     let var1 = divisor(words, difference);
     let above = dividend(count, var2);
     if guards::is_dividing(above, var1) {
-        return take(lines::in_range(refine(words, quotient(above, var1))));
+        return lines::in_range(refine(words, quotient(above, var1))).ok();
     }
-    PlainChannel {
-        taken: false,
-        value: 0,
-    }
+    None
 }

@@ -3,9 +3,8 @@ use Prim.Native.Nat.{ℕ}
 use mathlib.Core.Path.{◌≡◌, refl, sym, ap, ◌∙◌}
 use lib.IntN.{ℤ}
 use Rattle.steps.specs.declared.Signed.TheVariants.{Bits32}
-use Rattle.steps.specs.declared.Num.{Num}
-use Rattle.steps.specs.declared.Num.TheVariants.{Value, Broke}
-use Rattle.steps.specs.Step.{on_value}
+use Rattle.std.specs.Prelude.{Ok, Err}
+use Rattle.steps.specs.Step.{Num, on_value}
 use Rattle.steps.specs.Needs.{verdict}
 use Rattle.steps.specs.Work.{plain, needs, run}
 use Rattle.steps.proofs.Exactness.{exact, plain_value}
@@ -41,8 +40,8 @@ module _ (words : TemperatureWords) (count : ℕ) where
   -- by the fine temperature's answer: its value is the plain one, and its refusal is the formula's
   by-fine : (a : Num) → run Bits32 (fine_lines words count) ≡ a → from_fine a ≡ with_fine (plain_fine words count) (on_value a (λ fine. run Bits32 (degrees_line fine)))
   unfolding on_value
-  by-fine (Value fine) e = ap (λ (f : ℤ). with_fine f (run Bits32 (degrees_line fine))) (plain_value Bits32 (fine_lines words count) fine e ∙ fine-plain)
-  by-fine (Broke n) e = refl
+  by-fine (Ok fine) e = ap (λ (f : ℤ). with_fine f (run Bits32 (degrees_line fine))) (plain_value Bits32 (fine_lines words count) fine e ∙ fine-plain)
+  by-fine (Err m) e = refl
 
   decides : temperature_of words count ≡ with_fine (plain_fine words count) (verdict Bits32 (temperature_needs words count) (plain_temperature words count))
   decides = answer-is ∙ by-fine (run Bits32 (fine_lines words count)) refl ∙ ap (with_fine (plain_fine words count)) (sym formula-is ∙ whole)

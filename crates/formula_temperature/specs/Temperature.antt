@@ -1,14 +1,11 @@
 -- The maker's formula of the temperature, line by line as work over signed 32 bits; its answer; and the same lines with no check.
-use Rattle.std.specs.Prelude.{ℕ, ℤ, pos, ◌+ℤ◌, ◌-ℤ◌, ◌*ℤ◌}
+use Rattle.std.specs.Prelude.{ℕ, ℤ, pos, ◌+ℤ◌, ◌-ℤ◌, ◌*ℤ◌, Ok, Err}
 use Rattle.steps.specs.declared.Signed.TheVariants.{Bits32}
-use Rattle.steps.specs.declared.Num.{Num}
-use Rattle.steps.specs.declared.Num.TheVariants.{Value, Broke}
+use Rattle.steps.specs.Step.{Num}
 use Rattle.steps.specs.Work.{Work, given, num, share, run, ◌+ʷ◌, ◌-ʷ◌, ◌*ʷ◌, ◌<<◌, ◌>>◌}
 use Rattle.steps.specs.Needs.{◌<<ℤ◌, ◌>>ℤ◌}
 use Rattle.calibration.specs.declared.TemperatureWords.{TemperatureWords}
-use Rattle.formula.specs.declared.TemperatureAnswer.{TemperatureAnswer}
-use Rattle.formula.specs.declared.TemperatureAnswer.TheVariants.{Known, Missing}
-use Rattle.formula.specs.Answers.{missing}
+use Rattle.formula.specs.Answers.{TemperatureAnswer}
 
 -- var1 = ((((adc_T >> 3) - (T1 << 1))) * T2) >> 11;
 unfoldable pub slope_line : TemperatureWords → ℕ → Work
@@ -43,12 +40,12 @@ temperature_formula words count = share (fine_lines words count) λ fine. degree
 -- ---- the answer: the temperature and the fine temperature, absent together
 
 abbrev pub with_fine : ℤ → Num → TemperatureAnswer
-with_fine fine (Value value) = Known value fine
-with_fine fine (Broke n) = Missing (missing n)
+with_fine fine (Ok value) = Ok (record { value = value; fine = fine })
+with_fine fine (Err m) = Err m
 
 abbrev pub from_fine : Num → TemperatureAnswer
-from_fine (Value fine) = with_fine fine (run Bits32 (degrees_line fine))
-from_fine (Broke n) = Missing (missing n)
+from_fine (Ok fine) = with_fine fine (run Bits32 (degrees_line fine))
+from_fine (Err m) = Err m
 
 unfoldable pub temperature_of : TemperatureWords → ℕ → TemperatureAnswer
 temperature_of words count = from_fine (run Bits32 (fine_lines words count))

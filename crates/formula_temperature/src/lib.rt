@@ -15,34 +15,26 @@ mod lines;
 mod plain;
 
 use calibration::TemperatureWords;
-use formula::{PlainTemperature, TemperatureAnswer, take_temperature};
+use formula::{Temperature, TemperatureAnswer};
 
 // The temperature and the fine temperature of a count, with the chip's words.
 // What the plain road does not answer the checked road does.
 pub fn temperature(words: TemperatureWords, count: u32) -> TemperatureAnswer
     ensures { temperature_answer result ≡ temperature_answer (temperature_of words count) }
 {
-    let plain = temperature_plainly(words, count);
-    if plain.taken {
-        return TemperatureAnswer::Known {
-            value: plain.value,
-            fine: plain.fine,
-        };
+    if let Some(plain) = temperature_plainly(words, count) {
+        return Ok(plain);
     }
     checked::temperature(words, count)
 }
 
 // What the plain road gives of a count.
 // It is taken where the count is near T1.
-pub fn temperature_plainly(words: TemperatureWords, count: u32) -> PlainTemperature
+pub fn temperature_plainly(words: TemperatureWords, count: u32) -> Option<Temperature>
     ensures { result ≡ temperature_plainly (is_near words.t1 count) (temperature_of words count) }
 {
     if guards::is_near(words.t1, count) {
-        return take_temperature(plain::temperature(words, count));
+        return Some(plain::temperature(words, count));
     }
-    PlainTemperature {
-        taken: false,
-        value: 0,
-        fine: 0,
-    }
+    None
 }

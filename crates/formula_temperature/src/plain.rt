@@ -1,12 +1,12 @@
 // The plain road of the temperature: the maker's lines with no check, where the count is near T1.
-ghost use Rattle.std.specs.Prelude.{◌≡◌, ◌≤◌, nat_abs};
+ghost use Rattle.std.specs.Prelude.{◌≡◌, ◌≤◌, nat_abs, Ok};
 ghost use Rattle.steps.specs.declared.Signed.TheVariants.{Bits32};
 ghost use Rattle.formula.specs.Plain.{Gives};
 ghost use Rattle.formula_temperature.specs.Plain.{Near};
 ghost use Rattle.formula_temperature.specs.Temperature.{fine_lines, degrees_line, temperature_of};
 
 use calibration::TemperatureWords;
-use formula::TemperatureAnswer;
+use formula::Temperature;
 
 // The fine temperature.
 fn fine(words: TemperatureWords, count: u32) -> i64
@@ -31,13 +31,13 @@ fn degrees(fine: i64) -> i64
 }
 
 // The temperature and the fine temperature of a count that is near T1.
-pub(crate) fn temperature(words: TemperatureWords, count: u32) -> TemperatureAnswer
+pub(crate) fn temperature(words: TemperatureWords, count: u32) -> Temperature
     requires { Near words.t1 count }
-    ensures { result ≡ temperature_of words count }
+    ensures { temperature_of words count ≡ Ok result }
 {
     let fine = fine(words, count);
     let value = degrees(fine);
-    TemperatureAnswer::Known {
+    Temperature {
         value: value as i32,
         fine: fine as i32,
     }

@@ -15,93 +15,54 @@ pub struct Ridden {
 fn stop(o: Outcome, seen: u8) -> Ridden
     ensures { result ≡ cycle.stopped o seen }
 {
-    let machine = o.machine;
     Ridden {
-        machine: machine,
-        seen: seen,
+        machine: o.machine,
+        seen,
     }
 }
 
 // The next eight bytes.
+#[tactic(auto, unfolding(crate::specs::Cycles::given))]
 fn take_eight(m: Machine, seen: u8) -> Ridden
     ensures { result ≡ cycle.given 8 m seen }
 {
-    let mut now = m;
+    let mut machine = m;
     let mut all = seen;
-    let mut i: u32 = 0;
-    while i < 8 {
-        let given = machine_burst::byte(now);
-        now = given.machine;
-        all = all ^ given.value;
-        i += 1;
+    for _ in 0..8u32 {
+        let given = machine_burst::byte(machine);
+        machine = given.machine;
+        all ^= given.value;
     }
-    Ridden {
-        machine: now,
-        seen: all,
-    }
+    Ridden { machine, seen: all }
 }
 
-// The burst is read whole and closed, if it could be opened.
-fn read_burst(opened: Outcome, seen: u8, lent: &mut [u8]) -> Ridden
-    ensures { (result, lent.new) ≡ cycle.after_open opened seen lent.old }
+// Write, copied, finish, open, eight bytes and close.
+// The first event that is refused ends the cycle.
+#[tactic(auto, unfolding(crate::specs::Cycles::ridden, crate::specs::Cycles::after_write, crate::specs::Cycles::after_copied, crate::specs::Cycles::after_finish, crate::specs::Cycles::after_open))]
+pub fn ride(r: Ridden, f4: u8, t: u32, p: u32, h: u32, lent: &mut [u8]) -> Ridden
+    ensures { (result, lent.new) ≡ cycle.ridden r.machine r.seen f4 t p h lent.old }
 {
+    let seen = r.seen;
+    let written = machine_write::write(r.machine, paper::CTRL_MEAS, f4);
+    if written.answer != paper::DONE {
+        return stop(written, seen);
+    }
+    let copied = machine_start::copied(written.machine);
+    if copied.answer != paper::DONE {
+        return stop(copied, seen);
+    }
+    let finished = machine_finish::finish(copied.machine, t, p, h);
+    if finished.answer != paper::DONE {
+        return stop(finished, seen);
+    }
+    let opened = machine_burst::open(finished.machine, paper::FIRST_DATA);
     if opened.answer != paper::DONE {
         return stop(opened, seen);
     }
     let given = take_eight(opened.machine, seen);
-    let all = given.seen;
     let closing = machine_burst::close(given.machine, lent);
-    let closed = closing.machine;
     Ridden {
-        machine: closed,
-        seen: all,
+        machine: closing.machine,
+        seen: given.seen,
     }
-}
-
-// A burst is opened at the data, if the conversion could finish.
-fn read_finished(finished: Outcome, seen: u8, lent: &mut [u8]) -> Ridden
-    ensures { (result, lent.new) ≡ cycle.after_finish finished seen lent.old }
-{
-    if finished.answer != paper::DONE {
-        return stop(finished, seen);
-    }
-    read_burst(
-        machine_burst::open(finished.machine, paper::FIRST_DATA),
-        seen,
-        lent,
-    )
-}
-
-// The conversion finishes, if the calibration was copied for it.
-fn finish_copied(copied: Outcome, seen: u8, t: u32, p: u32, h: u32, lent: &mut [u8]) -> Ridden
-    ensures { (result, lent.new) ≡ cycle.after_copied copied seen t p h lent.old }
-{
-    if copied.answer != paper::DONE {
-        return stop(copied, seen);
-    }
-    read_finished(machine_finish::finish(copied.machine, t, p, h), seen, lent)
-}
-
-// The calibration is copied, if F4 could be written.
-fn copy_written(written: Outcome, seen: u8, t: u32, p: u32, h: u32, lent: &mut [u8]) -> Ridden
-    ensures { (result, lent.new) ≡ cycle.after_write written seen t p h lent.old }
-{
-    if written.answer != paper::DONE {
-        return stop(written, seen);
-    }
-    finish_copied(machine_start::copied(written.machine), seen, t, p, h, lent)
-}
-
-// Write, copied, finish, open, eight bytes and close.
-pub fn ride(m: Machine, seen: u8, f4: u8, t: u32, p: u32, h: u32, lent: &mut [u8]) -> Ridden
-    ensures { (result, lent.new) ≡ cycle.ridden m seen f4 t p h lent.old }
-{
-    copy_written(
-        machine_write::write(m, paper::CTRL_MEAS, f4),
-        seen,
-        t,
-        p,
-        h,
-        lent,
-    )
 }

@@ -1,5 +1,6 @@
 // The library for C: numbers and lent slices alone. include/onegrish.h declares these functions.
-// Each answers the paper's number, and nothing is written but on 0.
+// Each answers the paper's number, and nothing is written but on 0. C has a name of its own for each bus and each estimate, and no struct or enum
+// is handed over, so calls that differ in one constant stand side by side.
 #![tactic(auto)]
 
 ghost use Rattle.std.specs.Prelude.{◌≡◌};

@@ -1,7 +1,14 @@
 -- Numbers in lent places: the paper's number, and what the places hold then. A refusal leaves each as it was.
-use Rattle.std.specs.Prelude.{ℕ, cond, List, [], ◌∷◌, eqb}
+use Rattle.std.specs.Prelude.{ℕ, cond, List, [], ◌∷◌, eqb, Result, Ok, Err}
 use Rattle.paper.specs.Numbers as no
+use Rattle.paper.specs.declared.Refusal.{Refusal}
 use Rattle.paper.specs.Answers.{Answer}
+
+-- ---- a value of any type, and where there is none, what stood there
+
+abbrev pub value_into : {T : Type 0} → Result T Refusal → T → ℕ × T
+value_into (Ok value) old = (no.done, value)
+value_into (Err why) old = (why.number, old)
 
 -- ---- numbers: the first or last of an answer's values, and where it has none, what stood there
 

@@ -4,6 +4,7 @@
 ghost use Rattle.std.specs.Prelude.{◌≡◌};
 ghost use Rattle.onegrish_answers.specs.Version as interface;
 
+mod handing;
 pub mod messages; // bus bytes
 pub mod times; // waiting and polling
 

@@ -1,23 +1,18 @@
 -- A reading in lent places: the paper's number, and what the places hold then. A refusal leaves each as it was.
-use Rattle.std.specs.Prelude.{ℕ, cond, List, leb, length, set, ℤ, pos}
+use Rattle.std.specs.Prelude.{ℕ, cond, List, leb, length, set, ℤ, pos, Ok, Err}
 use Rattle.paper.specs.Numbers as no
-use Rattle.formula.specs.declared.TemperatureAnswer.{TemperatureAnswer}
-use Rattle.formula.specs.declared.TemperatureAnswer.TheVariants as heat
-use Rattle.formula.specs.declared.ChannelAnswer.{ChannelAnswer}
-use Rattle.formula.specs.declared.ChannelAnswer.TheVariants as channel
-use Rattle.formula.specs.Answers.{temperature_number, channel_number}
+use Rattle.formula.specs.Answers.{TemperatureAnswer, ChannelAnswer, temperature_number, channel_number}
 use Rattle.compensation.specs.declared.Reading.{Reading}
-use Rattle.compensation.specs.declared.Answer as comp
-use Rattle.compensation.specs.declared.Answer.TheVariants as whole
+use Rattle.compensation.specs.Compensation.{Answer}
 
 -- a channel that has no value leaves its places as they were
 abbrev pub with_temperature : TemperatureAnswer → List ℤ → List ℤ
-with_temperature (heat.Known value fine) lent = set (set lent 0 value) 1 fine
-with_temperature (heat.Missing n) lent = lent
+with_temperature (Ok t) lent = set (set lent 0 t.value) 1 t.fine
+with_temperature (Err m) lent = lent
 
 abbrev pub with_channel : ChannelAnswer → ℕ → List ℤ → List ℤ
-with_channel (channel.Known value) place lent = set lent place (pos value)
-with_channel (channel.Missing n) place lent = lent
+with_channel (Ok value) place lent = set lent place (pos value)
+with_channel (Err m) place lent = lent
 
 abbrev pub temperature_into : TemperatureAnswer → List ℤ → ℕ × List ℤ
 temperature_into a lent = (temperature_number a, with_temperature a lent)
@@ -37,9 +32,9 @@ abbrev pub channels_into : Reading → List ℕ → List ℤ → List ℕ × Lis
 channels_into r numbers values = (with_numbers r numbers, with_values r values)
 
 -- 9 for fewer places than three and four
-abbrev pub reading_into : comp.Answer → List ℕ → List ℤ → ℕ × List ℕ × List ℤ
-reading_into (whole.Refused n) numbers values = (n, numbers, values)
-reading_into (whole.Done r) numbers values =
+abbrev pub reading_into : Answer → List ℕ → List ℤ → ℕ × List ℕ × List ℤ
+reading_into (Err why) numbers values = (why.number, numbers, values)
+reading_into (Ok r) numbers values =
     cond (leb 3 (length numbers))
     (cond (leb 4 (length values))
     (no.done, with_numbers r numbers, with_values r values)

@@ -13,12 +13,12 @@ fn hand_temperature(answer: TemperatureAnswer, values: &mut [i64]) -> u8
     ensures { (result, values.new) ≡ into.temperature_into answer values.old }
 {
     match answer {
-        TemperatureAnswer::Missing(missing) => missing.number,
-        TemperatureAnswer::Known { value, fine } => {
-            values[0] = value as i64;
-            values[1] = fine as i64;
+        Ok(t) => {
+            values[0] = t.value as i64;
+            values[1] = t.fine as i64;
             paper::DONE
-        },
+        }
+        Err(missing) => missing.number,
     }
 }
 
@@ -28,11 +28,11 @@ fn hand_channel(answer: ChannelAnswer, place: usize, values: &mut [i64]) -> u8
     ensures { (result, values.new) ≡ into.channel_into answer place values.old }
 {
     match answer {
-        ChannelAnswer::Missing(missing) => missing.number,
-        ChannelAnswer::Known(value) => {
+        Ok(value) => {
             values[place] = value as i64;
             paper::DONE
-        },
+        }
+        Err(missing) => missing.number,
     }
 }
 
@@ -41,12 +41,9 @@ fn hand_channels(reading: Reading, numbers: &mut [u8], values: &mut [i64])
     requires { (3 ≤ length numbers.old) × (4 ≤ length values.old) }
     ensures { (numbers.new, values.new) ≡ into.channels_into reading numbers.old values.old }
 {
-    let temperature = reading.temperature;
-    let pressure = reading.pressure;
-    let humidity = reading.humidity;
-    numbers[0] = hand_temperature(temperature, values);
-    numbers[1] = hand_channel(pressure, 2, values);
-    numbers[2] = hand_channel(humidity, 3, values);
+    numbers[0] = hand_temperature(reading.temperature, values);
+    numbers[1] = hand_channel(reading.pressure, 2, values);
+    numbers[2] = hand_channel(reading.humidity, 3, values);
 }
 
 // The number of a reading; its channels are written where it is 0.
@@ -55,15 +52,13 @@ pub fn hand_reading(answer: Answer, numbers: &mut [u8], values: &mut [i64]) -> u
     ensures { (result, numbers.new, values.new) ≡ into.reading_into answer numbers.old values.old }
 {
     match answer {
-        Answer::Refused(number) => number,
-        Answer::Done(reading) => {
-            if 3 <= numbers.len() {
-                if 4 <= values.len() {
-                    hand_channels(reading, numbers, values);
-                    return paper::DONE;
-                }
+        Ok(reading) => {
+            if numbers.len() < 3 || values.len() < 4 {
+                return paper::BUFFER_TOO_SHORT;
             }
-            paper::BUFFER_TOO_SHORT
-        },
+            hand_channels(reading, numbers, values);
+            paper::DONE
+        }
+        Err(why) => why.number,
     }
 }

@@ -1,2 +1,2 @@
--- Words with a sign.
-pub mod Signs
+-- Words of 8 bits, and what is answered where a test holds.
+pub mod Bytes

@@ -1,13 +1,13 @@
 -- The chip's words as 18 numbers of 16 bits with a sign, T1 to T3, P1 to P9, H1 to H6: what is read out of a list of them. T1 and P1 have no sign: from 0x8000 on
 -- they stand there as themselves less 0x10000. 2 for a list that is not of 18 words, then 7 where H1, H3 or H6 is no word of 8 bits.
-use Rattle.std.specs.Prelude.{ℕ, ◌-◌, Bool, cond, ◌&&◌, List, eqb, length, get_or, ℤ, pos, negsuc, nat_abs}
+use Rattle.std.specs.Prelude.{ℕ, ◌-◌, Bool, cond, ◌&&◌, List, eqb, length, get_or, ℤ, pos, negsuc, nat_abs, Ok, Err}
 use Rattle.std.specs.Int.Signed.{le_z}
 use Rattle.paper.specs.Numbers as no
+use Rattle.paper.specs.Answers.{refusal}
 use Rattle.calibration.specs.declared.TemperatureWords.{TemperatureWords}
 use Rattle.calibration.specs.declared.PressureWords.{PressureWords}
 use Rattle.calibration.specs.declared.HumidityWords.{HumidityWords}
-use Rattle.calibration.specs.declared.Calibration.{Calibration}
-use Rattle.calibration.specs.declared.Calibration.TheVariants as blocks
+use Rattle.calibration.specs.Calibration.{Calibration}
 
 abbrev pub unsigned : ℤ → ℕ
 unsigned (pos n) = n
@@ -57,6 +57,6 @@ unfoldable pub taken : List ℤ → Calibration
 taken words =
     cond (eqb (length words) 18)
     (cond (are_words words)
-    (blocks.Known (record { temperature = kept_temperature words; pressure = kept_pressure words; humidity = kept_humidity words }))
-    (blocks.Refused no.out_of_range))
-    (blocks.Refused no.wrong_length)
+    (Ok (record { temperature = kept_temperature words; pressure = kept_pressure words; humidity = kept_humidity words }))
+    (Err (refusal no.out_of_range)))
+    (Err (refusal no.wrong_length))

@@ -7,14 +7,15 @@ use native.Mathlib.Omega.{arith}
 use lib.Dec.{ltb}
 use lib.IntN.{ℤ, pos}
 use lib.ListN.{length, take, length-take}
-use borrow.Author.Tests.{le-leb, lt-ltb}
+use borrow.Author.Tests.{lt-ltb}
 use Rattle.calibration.specs.declared.TemperatureWords.{TemperatureWords}
 use Rattle.calibration.specs.declared.PressureWords.{PressureWords}
 use Rattle.calibration.specs.declared.HumidityWords.{HumidityWords}
 use Rattle.calibration.specs.declared.Words.{Words}
-use Rattle.calibration.specs.declared.Calibration.TheVariants.{Known}
+use Rattle.std.specs.Prelude.{Ok}
 use Rattle.calibration.specs.Calibration.{signed}
 use Rattle.onegrish_kept.specs.Words as kept
+use Rattle.onegrish_kept.proofs.Bytes.{byte-is}
 use Rattle.onegrish_kept.specs.Words.{word_at, taken}
 use Rattle.onegrish_laid.specs.Written as written
 use Rattle.onegrish_laid.specs.RoundTrip.{InRange, ReadAgain}
@@ -28,9 +29,6 @@ unsigned_back n h = go (ltb n 0x8000) refl
     go : (b : Bool) → ltb n 0x8000 ≡ b → kept.unsigned (signed 0x8000 n) ≡ n
     go true e = rw e
     go false e = rw (e, lt-ltb n 0x10000 h) (omega arith)
-
-byte-is : (n : ℕ) → n < 256 → kept.is_byte (pos n) ≡ true
-byte-is n h = rw (le-leb 0 n (omega arith), le-leb n 255 (omega arith))
 
 -- ---- what a list reads as, by its places
 
@@ -64,7 +62,7 @@ words-by list w a b c at = rw (at 0 (omega arith), at 2 (omega arith), at 5 (ome
 taken-by :
     (list : List ℤ) (words : Words) → length list ≡ 18 → kept.are_words list ≡ true →
     kept.kept_temperature list ≡ words.temperature → kept.kept_pressure list ≡ words.pressure → kept.kept_humidity list ≡ words.humidity →
-    taken list ≡ Known words
+    taken list ≡ Ok words
 unfolding taken
 taken-by list words size bytes t p h = rw (size, bytes, t, p, h)
 
@@ -113,7 +111,7 @@ module _ (words : Words) (range : InRange words) (lent : List ℤ) (room : 18 �
       at_front zero_word 18 all (12 + k) (omega arith)
       ∙ at-laid zero_word 12 (written.humidity_list words.humidity) with-pressure k h (omega (arith, e))
 
-  taken_back : taken (take 18 all) ≡ Known words
+  taken_back : taken (take 18 all) ≡ Ok words
   taken_back =
       let w = words.humidity in
       taken-by (take 18 all) words

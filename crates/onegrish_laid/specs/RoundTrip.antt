@@ -1,7 +1,6 @@
 -- Words that were written are read again as they were: a statement (proofs/RoundTrip.antt).
-use Rattle.std.specs.Prelude.{◌≤◌, ◌<◌, ◌≡◌, true, List, ℤ, length, take}
+use Rattle.std.specs.Prelude.{◌≤◌, ◌<◌, ◌≡◌, true, List, ℤ, length, take, Ok}
 use Rattle.calibration.specs.declared.Words.{Words}
-use Rattle.calibration.specs.declared.Calibration.TheVariants.{Known}
 use Rattle.onegrish_kept.specs.Words.{is_signed_byte, taken}
 use Rattle.onegrish_laid.specs.Written.{with_words}
 
@@ -15,4 +14,4 @@ pub record InRange (words : Words) : Type 0 where
 
 -- the first 18 places give the words again
 abbrev pub ReadAgain : Type 0
-ReadAgain = (words : Words) → InRange words → (lent : List ℤ) → 18 ≤ length lent → taken (take 18 (with_words words lent)) ≡ Known words
+ReadAgain = (words : Words) → InRange words → (lent : List ℤ) → 18 ≤ length lent → taken (take 18 (with_words words lent)) ≡ Ok words

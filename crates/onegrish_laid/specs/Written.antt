@@ -1,14 +1,12 @@
 -- The chip's words as 18 numbers of 16 bits with a sign, T1 to T3, P1 to P9, H1 to H6: what a lent slice holds once they are written. T1 and P1 have no sign:
 -- from 0x8000 on they stand there as themselves less 0x10000. 9 for fewer than 18 places.
-use Rattle.std.specs.Prelude.{ℕ, ◌+◌, cond, List, [], ◌∷◌, leb, length, set, ℤ, pos}
+use Rattle.std.specs.Prelude.{ℕ, ◌+◌, cond, List, [], ◌∷◌, leb, length, set, ℤ, pos, Ok, Err}
 use Rattle.paper.specs.Numbers as no
 use Rattle.calibration.specs.declared.TemperatureWords.{TemperatureWords}
 use Rattle.calibration.specs.declared.PressureWords.{PressureWords}
 use Rattle.calibration.specs.declared.HumidityWords.{HumidityWords}
 use Rattle.calibration.specs.declared.Words.{Words}
-use Rattle.calibration.specs.declared.Calibration.{Calibration}
-use Rattle.calibration.specs.declared.Calibration.TheVariants as blocks
-use Rattle.calibration.specs.Calibration.{signed}
+use Rattle.calibration.specs.Calibration.{Calibration, signed}
 
 -- the list with xs in it from place i on
 abbrev pub laid : {A : Type 0} → ℕ → List A → List A → List A
@@ -29,6 +27,6 @@ with_words words lent =
     laid 12 (humidity_list words.humidity) (laid 3 (pressure_list words.pressure) (laid 0 (temperature_list words.temperature) lent))
 
 abbrev pub words_into : Calibration → List ℤ → ℕ × List ℤ
-words_into (blocks.Refused n) lent = (n, lent)
-words_into (blocks.Known words) lent =
+words_into (Err why) lent = (why.number, lent)
+words_into (Ok words) lent =
     cond (leb 18 (length lent)) (no.done, with_words words lent) (no.buffer_too_short, lent)

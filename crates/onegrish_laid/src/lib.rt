@@ -1,24 +1,10 @@
 // The chip's words into a lent slice, as 18 numbers of 16 bits, T1 to T3, P1 to P9, H1 to H6. They are read again by `onegrish_kept`.
 #![tactic(auto)]
 
-ghost use Rattle.std.specs.Prelude.{◌≡◌, [], ◌∷◌, ◌+◌, ◌≤◌, ◌<◌, length};
-ghost use Rattle.calibration.specs.Calibration.{signed};
-ghost use Rattle.calibration.specs.declared.Calibration.TheVariants.{Known};
+ghost use Rattle.std.specs.Prelude.{◌≡◌, [], ◌∷◌, ◌+◌, ◌≤◌, ◌<◌, length, Ok};
 ghost use Rattle.onegrish_laid.specs.Written as written;
 
 use calibration::{Calibration, HumidityWords, PressureWords, TemperatureWords, Words};
-
-// A word without a sign in 16 bits that have one.
-// From 0x8000 on it stands for itself less 0x10000.
-fn with_sign(word: u16) -> i16
-    ensures { result ≡ signed 0x8000 word }
-{
-    if word < 0x8000 {
-        word as i16
-    } else {
-        (word as i32 - 0x10000) as i16
-    }
-}
 
 // Three words, from a place on.
 fn lay_three(k: usize, a: i16, b: i16, c: i16, words: &mut [i16])
@@ -31,11 +17,12 @@ fn lay_three(k: usize, a: i16, b: i16, c: i16, words: &mut [i16])
 }
 
 // T1 to T3, each at its place.
+// T1 has no sign: from 0x8000 on it stands for itself less 0x10000, and so does P1.
 fn lay_temperature(w: TemperatureWords, words: &mut [i16])
     requires { 18 ≤ length words.old }
     ensures { words.new ≡ written.laid 0 (written.temperature_list w) words.old }
 {
-    lay_three(0, with_sign(w.t1), w.t2, w.t3, words);
+    lay_three(0, w.t1.cast_signed(), w.t2, w.t3, words);
 }
 
 // P1 to P9, each at its place.
@@ -43,7 +30,7 @@ fn lay_pressure(w: PressureWords, words: &mut [i16])
     requires { 18 ≤ length words.old }
     ensures { words.new ≡ written.laid 3 (written.pressure_list w) words.old }
 {
-    lay_three(3, with_sign(w.p1), w.p2, w.p3, words);
+    lay_three(3, w.p1.cast_signed(), w.p2, w.p3, words);
     lay_three(6, w.p4, w.p5, w.p6, words);
     lay_three(9, w.p7, w.p8, w.p9, words);
 }
@@ -59,7 +46,7 @@ fn lay_humidity(w: HumidityWords, words: &mut [i16])
 
 // All 18 words, each at its place; 9 for fewer than 18 places.
 fn lay_words(w: Words, words: &mut [i16]) -> u8
-    ensures { (result, words.new) ≡ written.words_into (Known w) words.old }
+    ensures { (result, words.new) ≡ written.words_into (Ok w) words.old }
 {
     if onegrish_kept::WORDS <= words.len() {
         lay_temperature(w.temperature, words);
@@ -75,7 +62,7 @@ pub fn hand_words(known: Calibration, words: &mut [i16]) -> u8
     ensures { (result, words.new) ≡ written.words_into known words.old }
 {
     match known {
-        Calibration::Refused(number) => number,
-        Calibration::Known(w) => lay_words(w, words),
+        Ok(w) => lay_words(w, words),
+        Err(why) => why.number,
     }
 }

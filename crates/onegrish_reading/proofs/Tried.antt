@@ -7,10 +7,10 @@ use lib.Dec.{leb, eqb}
 use lib.IntN.{ℤ}
 use lib.ListN.{length}
 use borrow.Author.Tests.{leb-true, eqb-true, le-leb}
+use Rattle.std.specs.Prelude.{Ok}
 use Rattle.laws.specs.Tests.{both}
 use Rattle.paper.specs.Registers as reg
 use Rattle.calibration.specs.declared.Words.{Words}
-use Rattle.calibration.specs.declared.Calibration.TheVariants as blocks
 use Rattle.data.specs.Counts.{counts_of}
 use Rattle.compensation.specs.Compensation.{reading, compensated_words, compensated_with}
 use Rattle.onegrish_channels.specs.Channels.{channels_into, reading_into}
@@ -38,7 +38,7 @@ tried-is bytes t p h numbers values e =
 
 pub whole_is :
     (words : Words) (bytes : List ℕ) (t p h : ℕ) (numbers : List ℕ) (values : List ℤ) → Tried (length bytes) t p h (length numbers) (length values) →
-    reading_into (compensated_with (blocks.Known words) bytes t p h) numbers values ≡ done_with (channels_into (reading words (counts_of bytes) 1 1 1) numbers values)
+    reading_into (compensated_with (Ok words) bytes t p h) numbers values ≡ done_with (channels_into (reading words (counts_of bytes) 1 1 1) numbers values)
 unfolding compensated_words
 whole_is words bytes t p h numbers values r =
     let on = r.on in

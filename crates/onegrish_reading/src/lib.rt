@@ -11,6 +11,7 @@ use calibration::Calibration;
 
 // The number of the reading that bytes make with a chip's words; its channels are written where it is 0.
 // What refused the words refuses the reading. Real air takes the plain road, and needs no answer in between.
+// Codes and lent slices come one by one, as C hands them over: a struct of them would be built for this one call and taken apart in it.
 pub fn hand_compensated(
     known: Calibration,
     bytes: &[u8],

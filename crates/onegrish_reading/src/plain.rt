@@ -2,7 +2,6 @@
 // Each function says whether it was; where it was not, nothing is written.
 ghost use Rattle.std.specs.Prelude.{◌≡◌, ◌≤◌, length};
 ghost use Rattle.paper.specs.Registers as reg;
-ghost use Rattle.calibration.specs.declared.Calibration.TheVariants as blocks;
 ghost use Rattle.data.specs.Counts.{counts_of};
 ghost use Rattle.compensation.specs.Compensation.{reading, compensated_with};
 ghost use Rattle.onegrish_channels.specs.Channels.{channels_into, reading_into};
@@ -17,10 +16,9 @@ fn hand_counts(words: Words, counts: Counts, numbers: &mut [u8], values: &mut [i
     ensures { Handed result (done_with (channels_into (reading words counts 1 1 1) numbers.old values.old))
         (numbers.old, values.old) (numbers.new, values.new) }
 {
-    let plain = plain_reading::read_counts(words, counts);
-    if !plain.taken {
+    let Some(plain) = plain_reading::read_counts(words, counts) else {
         return false;
-    }
+    };
     onegrish_channels::hand_reading(plain_reading::answer(plain), numbers, values);
     true
 }
@@ -29,16 +27,7 @@ fn hand_counts(words: Words, counts: Counts, numbers: &mut [u8], values: &mut [i
 fn is_tried(bytes: usize, t: u8, p: u8, h: u8, numbers: usize, values: usize) -> bool
     ensures { result ≡ is_tried bytes t p h numbers values }
 {
-    if bytes != paper::DATA {
-        return false;
-    }
-    if !plain_reading::are_enabled(t, p, h) {
-        return false;
-    }
-    if numbers < 3 {
-        return false;
-    }
-    4 <= values
+    bytes == paper::DATA && plain_reading::are_enabled(t, p, h) && 3 <= numbers && 4 <= values
 }
 
 // The counts in eight bytes.
@@ -46,31 +35,10 @@ fn count(bytes: &[u8]) -> Counts
     requires { length bytes.now ≡ reg.data_length }
     ensures { result ≡ counts_of bytes.now }
 {
-    data::count([
-        bytes[0], bytes[1], bytes[2], bytes[3], bytes[4], bytes[5], bytes[6], bytes[7],
-    ])
+    data::count(<[u8; paper::DATA]>::try_from(bytes).unwrap())
 }
 
-// The reading that eight bytes make with a chip's words.
-fn hand_bytes(
-    words: Words,
-    bytes: &[u8],
-    t: u8,
-    p: u8,
-    h: u8,
-    numbers: &mut [u8],
-    values: &mut [i64],
-) -> bool
-    ensures { Handed result (reading_into (compensated_with (blocks.Known words) bytes.now t p h) numbers.old values.old)
-        (numbers.old, values.old) (numbers.new, values.new) }
-{
-    if is_tried(bytes.len(), t, p, h, numbers.len(), values.len()) {
-        return hand_counts(words, count(bytes), numbers, values);
-    }
-    false
-}
-
-// The same with the words that two blocks gave, or with what refused them.
+// The reading that eight bytes make with the words that two blocks gave, or with what refused them.
 pub fn hand(
     known: Calibration,
     bytes: &[u8],
@@ -83,8 +51,11 @@ pub fn hand(
     ensures { Handed result (reading_into (compensated_with known bytes.now t p h) numbers.old values.old)
         (numbers.old, values.old) (numbers.new, values.new) }
 {
-    match known {
-        Calibration::Refused(_) => false,
-        Calibration::Known(words) => hand_bytes(words, bytes, t, p, h, numbers, values),
+    let Ok(words) = known else {
+        return false;
+    };
+    if !is_tried(bytes.len(), t, p, h, numbers.len(), values.len()) {
+        return false;
     }
+    hand_counts(words, count(bytes), numbers, values)
 }

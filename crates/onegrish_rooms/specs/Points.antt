@@ -1,7 +1,7 @@
 -- A map point in lent places: the paper's number, and what the places hold then. 9 leaves each as it was.
 use Rattle.std.specs.Prelude.{ℕ, cond, ◌&&◌, List, leb, Float, length, set}
 use Rattle.paper.specs.Numbers as no
-use Rattle.compensation.specs.declared.Answer.{Answer}
+use Rattle.compensation.specs.Compensation.{Answer}
 use Rattle.rooms.specs.declared.Cell.{Cell}
 use Rattle.rooms.specs.Points.{cells_of, cell_answer, point_of, flag}
 use Rattle.onegrish_rooms.specs.declared.Marks.{Marks}

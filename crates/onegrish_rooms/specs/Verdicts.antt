@@ -1,9 +1,8 @@
 -- Verdicts in lent places: 0 is unknown, so that places which nothing was written to never say that two rooms agree.
-use Rattle.std.specs.Prelude.{ℕ, cond, List, eqb, leb, ℤ, length}
+use Rattle.std.specs.Prelude.{ℕ, cond, List, eqb, leb, ℤ, length, Ok, Err}
 use Rattle.paper.specs.Numbers as no
-use Rattle.formula.specs.Answers.{missing}
-use Rattle.rooms.specs.declared.Whole.{Whole}
-use Rattle.rooms.specs.declared.Whole.TheVariants.{Known, Missing}
+use Rattle.paper.specs.Answers.{missing}
+use Rattle.rooms.specs.Compared.{Whole}
 use Rattle.rooms.specs.declared.Verdict.{Verdict}
 use Rattle.rooms.specs.declared.Verdict.TheVariants.{Agree, Differ, Unknown}
 use Rattle.rooms.specs.declared.Verdicts.{Verdicts}
@@ -26,7 +25,7 @@ verdict_number Differ = differ
 
 -- a channel as it is handed to C: a value stands beside 0 alone
 abbrev pub channel_of : ℕ → ℤ → Whole
-channel_of number value = cond (eqb number no.done) (Known value) (Missing (missing number))
+channel_of number value = cond (eqb number no.done) (Ok value) (Err (missing number))
 
 abbrev pub tolerances_of : ℕ → ℕ → ℕ → Tolerances
 tolerances_of t p h = record { temperature = t; pressure = p; humidity = h }

@@ -11,14 +11,11 @@ pub fn mark(answer: Answer) -> Marks
     ensures { result ≡ into.marks_of answer }
 {
     let cells = rooms::make_cells(answer);
-    let t = cells.temperature;
-    let p = cells.pressure;
-    let h = cells.humidity;
     Marks {
         point: rooms::make_point(answer),
-        temperature: cell_number(t),
-        pressure: cell_number(p),
-        humidity: cell_number(h),
+        temperature: cell_number(cells.temperature),
+        pressure: cell_number(cells.pressure),
+        humidity: cell_number(cells.humidity),
     }
 }
 
@@ -28,23 +25,19 @@ pub fn hand_marks(marks: Marks, doubles: &mut [f64], known: &mut [u8], numbers: 
     ensures { (result, doubles.new, known.new, numbers.new)
         ≡ into.marks_into marks doubles.old known.old numbers.old }
 {
-    if 3 <= doubles.len() {
-        if 3 <= known.len() {
-            if 3 <= numbers.len() {
-                doubles[0] = marks.point.temperature;
-                doubles[1] = marks.point.pressure;
-                doubles[2] = marks.point.humidity;
-                known[0] = marks.point.temperature_known as u8;
-                known[1] = marks.point.pressure_known as u8;
-                known[2] = marks.point.humidity_known as u8;
-                numbers[0] = marks.temperature;
-                numbers[1] = marks.pressure;
-                numbers[2] = marks.humidity;
-                return paper::DONE;
-            }
-        }
+    if doubles.len() < 3 || known.len() < 3 || numbers.len() < 3 {
+        return paper::BUFFER_TOO_SHORT;
     }
-    paper::BUFFER_TOO_SHORT
+    doubles[0] = marks.point.temperature;
+    doubles[1] = marks.point.pressure;
+    doubles[2] = marks.point.humidity;
+    known[0] = marks.point.temperature_known as u8;
+    known[1] = marks.point.pressure_known as u8;
+    known[2] = marks.point.humidity_known as u8;
+    numbers[0] = marks.temperature;
+    numbers[1] = marks.pressure;
+    numbers[2] = marks.humidity;
+    paper::DONE
 }
 
 // The number of a cell: 0 where it has a value, and else what stands in its place.
@@ -52,9 +45,7 @@ fn cell_number(cell: Cell) -> u8
     ensures { result ≡ into.number cell }
 {
     match cell {
-        Cell::Temperature(_) => paper::DONE,
-        Cell::Pressure(_) => paper::DONE,
-        Cell::Humidity(_) => paper::DONE,
+        Cell::Temperature(_) | Cell::Pressure(_) | Cell::Humidity(_) => paper::DONE,
         Cell::Missing(missing) => missing.number,
     }
 }

@@ -2,7 +2,7 @@
 ghost use Rattle.std.specs.Prelude.{◌≡◌, ◌≤◌, length};
 ghost use Rattle.onegrish_rooms.specs.Verdicts as into;
 
-use formula::Missing;
+use paper::Missing;
 use rooms::{Verdict, Verdicts, Whole};
 
 // The verdicts by their numbers, which include/onegrish.h names too.
@@ -23,14 +23,14 @@ pub fn verdict_number(verdict: Verdict) -> u8
     }
 }
 
-// A channel as it is handed to C: its value where its number is 0.
+// A channel as C hands it over, a number with a value beside it: its value where its number is 0.
 pub fn take_channel(number: u8, value: i64) -> Whole
     ensures { result ≡ into.channel_of number value }
 {
     if number == paper::DONE {
-        Whole::Known(value)
+        Ok(value)
     } else {
-        Whole::Missing(Missing { number })
+        Err(Missing { number })
     }
 }
 
@@ -51,10 +51,7 @@ fn lay_verdicts(verdicts: Verdicts, lent: &mut [u8])
     requires { 3 ≤ length lent.old }
     ensures { lent.new ≡ into.with_verdicts verdicts lent.old }
 {
-    let t = verdicts.temperature;
-    let p = verdicts.pressure;
-    let h = verdicts.humidity;
-    lent[0] = verdict_number(t);
-    lent[1] = verdict_number(p);
-    lent[2] = verdict_number(h);
+    lent[0] = verdict_number(verdicts.temperature);
+    lent[1] = verdict_number(verdicts.pressure);
+    lent[2] = verdict_number(verdicts.humidity);
 }

@@ -14,19 +14,17 @@ mod handed; // what is handed over of an answer
 pub extern "C" fn onegrish_visit_read(bytes: &[u8], steps: &mut [u32], count: &mut usize) -> u8
     ensures { (result, count.new, steps.new) ≡ counted_into (read_into bytes.now steps.old) count.old }
 {
-    let read = visit_read::read_record(bytes, steps);
-    handed::hand_count(handed::read_number(read), handed::read_value(read), count)
+    handed::hand_count(visit_read::read_record(bytes, steps), count)
 }
 
 // The offset that goes with 18 to 22, whatever list is lent.
 // 0 where the record is read, and with 2 and 9.
 #[unsafe(no_mangle)]
+#[tactic(auto, unfolding(crate::specs::Handed::offset_of))]
 pub extern "C" fn onegrish_visit_read_offset(bytes: &[u8]) -> usize
     ensures { result ≡ offset_of bytes.now }
 {
-    let mut none = [0u32; 0];
-    let read = visit_read::read_record(bytes, &mut none);
-    handed::refusal_value(handed::read_number(read), handed::read_value(read))
+    handed::refusal_value(visit_read::read_record(bytes, &mut []))
 }
 
 // The record of a list of steps, eight words each, at the front of `out`, and its length.
@@ -35,24 +33,15 @@ pub extern "C" fn onegrish_visit_read_offset(bytes: &[u8]) -> usize
 pub extern "C" fn onegrish_visit_write(steps: &[u32], out: &mut [u8], count: &mut usize) -> u8
     ensures { (result, count.new, out.new) ≡ counted_into (write_into steps.now out.old) count.old }
 {
-    let written = visit_write::write(steps, out);
-    handed::hand_count(
-        handed::written_number(written),
-        handed::written_value(written),
-        count,
-    )
+    handed::hand_count(visit_write::write(steps, out), count)
 }
 
 // The place of the step that goes with 19, 21 and 22, whatever buffer is lent.
 // 0 where the record is written, and with 2 and 9.
 #[unsafe(no_mangle)]
+#[tactic(auto, unfolding(crate::specs::Handed::place_of))]
 pub extern "C" fn onegrish_visit_write_place(steps: &[u32]) -> usize
     ensures { result ≡ place_of steps.now }
 {
-    let mut none = [0u8; 0];
-    let written = visit_write::write(steps, &mut none);
-    handed::refusal_value(
-        handed::written_number(written),
-        handed::written_value(written),
-    )
+    handed::refusal_value(visit_write::write(steps, &mut []))
 }

@@ -8,15 +8,13 @@ use lib.Dec.{ltb, leb, eqb}
 use lib.IntN.{ℤ}
 use lib.ListN.{length, get_or, take}
 use borrow.Author.Tests.{ltb-true, ltb-false, leb-true, le-leb, lt-ltb}
+use Rattle.std.specs.Prelude.{Ok, Err}
 use Rattle.paper.specs.Numbers as no
+use Rattle.paper.specs.Answers.{refusal}
 use Rattle.paper.specs.Registers as reg
 use Rattle.calibration.specs.declared.Words.{Words}
-use Rattle.calibration.specs.declared.Calibration.{Calibration}
-use Rattle.calibration.specs.declared.Calibration.TheVariants.{Known, Refused}
-use Rattle.calibration.specs.Calibration.{signed, words_of, calibrated}
-use Rattle.compensation.specs.declared.Answer.{Answer}
-use Rattle.compensation.specs.declared.Answer.TheVariants as answer
-use Rattle.compensation.specs.Compensation.{compensated_words, compensated_with, compensated}
+use Rattle.calibration.specs.Calibration.{Calibration, signed, words_of, calibrated}
+use Rattle.compensation.specs.Compensation.{Answer, compensated_words, compensated_with, compensated}
 use Rattle.onegrish_kept.specs.Words.{is_signed_byte}
 use Rattle.onegrish_laid.specs.Written.{with_words, words_into}
 use Rattle.onegrish_laid.specs.RoundTrip.{InRange}
@@ -51,20 +49,20 @@ module _ (words : Words) (range : InRange words) (lent : List ℤ) (bytes : List
   abbrev As : Calibration → Type 0
   As known = (words_into known lent).0 ≡ no.done → compensated_kept (take 18 (words_into known lent).1) bytes t p h ≡ compensated_with known bytes t p h
 
-  kept-known : 18 ≤ length lent → compensated_kept (take 18 (with_words words lent)) bytes t p h ≡ compensated_with (Known words) bytes t p h
+  kept-known : 18 ≤ length lent → compensated_kept (take 18 (with_words words lent)) bytes t p h ≡ compensated_with (Ok words) bytes t p h
   unfolding compensated_kept
   kept-known room =
       rw (read_again words range lent room)
-      (twice (eqb (length bytes) reg.data_length) (compensated_words words bytes t p h) (answer.Refused no.wrong_length))
+      (twice (eqb (length bytes) reg.data_length) (compensated_words words bytes t p h) (Err (refusal no.wrong_length)))
 
-  with-room : (b : Bool) → leb 18 (length lent) ≡ b → As (Known words)
+  with-room : (b : Bool) → leb 18 (length lent) ≡ b → As (Ok words)
   with-room true e done = rw e (kept-known (leb-true 18 (length lent) e))
   with-room false e done = absurd (too_short (rw e at done))
     where
       too_short : no.buffer_too_short ≡ no.done → ⊥
       too_short q = omega arith
 
-  by_lengths : (a b : Bool) → As (cond a (cond b (Known words) (Refused no.wrong_length)) (Refused no.wrong_length))
+  by_lengths : (a b : Bool) → As (cond a (cond b (Ok words) (Err (refusal no.wrong_length))) (Err (refusal no.wrong_length)))
   by_lengths true true done = with-room (leb 18 (length lent)) refl done
   by_lengths true false done = absurd (omega arith)
   by_lengths false b done = absurd (omega arith)

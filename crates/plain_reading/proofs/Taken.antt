@@ -1,33 +1,24 @@
 -- Where the plain roads are taken, what they give is the reading's answer.
 use Prim.Native.Nat.{ℕ}
-use mathlib.Core.Path.{◌≡◌, refl, sym}
-use mathlib.Core.Bool.{Bool, true, false, cond, not, ◌&&◌, true≢false}
+use mathlib.Core.Path.{◌≡◌, refl}
+use mathlib.Core.Bool.{Bool, true, false, not, ◌&&◌}
 use lib.Dec.{eqb}
 use borrow.Author.Tests.{not-true}
+use Rattle.std.specs.Prelude.{Option, Some, None, Ok, cond}
 use Rattle.laws.specs.Tests.{both}
 use Rattle.paper.specs.Registers as reg
 use Rattle.calibration.specs.declared.Words.{Words}
 use Rattle.data.specs.declared.Counts.{Counts}
 use Rattle.data.specs.Counts.{counts_of}
-use Rattle.formula.specs.declared.PlainTemperature.{PlainTemperature}
-use Rattle.formula.specs.declared.PlainChannel.{PlainChannel}
-use Rattle.formula.specs.declared.TemperatureAnswer.TheVariants as heat
-use Rattle.formula.specs.declared.ChannelAnswer.TheVariants as channel
+use Rattle.formula.specs.declared.Temperature.{Temperature}
 use Rattle.formula.proofs.Taken.{taken-channel, taken-temperature}
 use Rattle.formula_temperature.specs.Temperature.{temperature_of}
 use Rattle.formula_pressure.specs.Pressure.{pressure_of}
 use Rattle.formula_humidity.specs.Humidity.{humidity_of}
-use Rattle.compensation.specs.declared.Answer.{Answer}
-use Rattle.compensation.specs.declared.Answer.TheVariants.{Done}
-use Rattle.compensation.specs.Compensation.{reading, compensated_words}
+use Rattle.compensation.specs.Compensation.{Answer, reading, compensated_words}
 use Rattle.plain_reading.specs.declared.PlainReading.{PlainReading}
-use Rattle.plain_reading.specs.Plain.{are_enabled, not_taken, with_humidity, with_pressure, with_temperature, counts_plainly, read_plainly, answer_of}
+use Rattle.plain_reading.specs.Plain.{are_enabled, with_humidity, with_pressure, with_temperature, counts_plainly, read_plainly, answer_of}
 use Rattle.plain_reading.specs.Taken.{IsTheAnswer}
-
--- where a choice between some reading and the one that is not taken is taken, its test held
-chosen : (b : Bool) (r : PlainReading) → (cond b r not_taken).taken ≡ true → (b ≡ true) × (r.taken ≡ true)
-chosen true r e = (refl, e)
-chosen false r e = absurd (true≢false (sym e))
 
 -- codes that skip no channel
 pub record Enabled (t p h : ℕ) : Type 0 where
@@ -45,45 +36,49 @@ enabled t p h e =
 
 -- ---- from the last road back: each that is taken gives its channel's answer
 
-module _ (words : Words) (counts : Counts) where
+module _ (words : Words) (counts : Counts) (r : PlainReading) where
   abbrev whole : Answer
-  whole = Done (reading words counts 1 1 1)
+  whole = Ok (reading words counts 1 1 1)
 
-  abbrev HasTemperature : PlainTemperature → Type 0
-  HasTemperature t = temperature_of words.temperature counts.temperature ≡ heat.Known t.value t.fine
+  abbrev HasTemperature : Temperature → Type 0
+  HasTemperature t = temperature_of words.temperature counts.temperature ≡ Ok t
 
-  abbrev HasPressure : PlainTemperature → PlainChannel → Type 0
-  HasPressure t p = pressure_of words.pressure t.fine counts.pressure ≡ channel.Known p.value
+  abbrev HasPressure : Temperature → ℕ → Type 0
+  HasPressure t p = pressure_of words.pressure t.fine counts.pressure ≡ Ok p
 
-  abbrev HasHumidity : PlainTemperature → PlainChannel → Type 0
-  HasHumidity t h = humidity_of words.humidity t.fine counts.humidity ≡ channel.Known h.value
+  abbrev HasHumidity : Temperature → ℕ → Type 0
+  HasHumidity t h = humidity_of words.humidity t.fine counts.humidity ≡ Ok h
 
   with-humidity :
-      (t : PlainTemperature) (p h : PlainChannel) → HasTemperature t → HasPressure t p → (h.taken ≡ true → HasHumidity t h) →
-      (with_humidity t p h).taken ≡ true → answer_of (with_humidity t p h) ≡ whole
-  with-humidity t p h is-t is-p is-h e = let c = chosen h.taken _ e in rw (c.0, is-t, is-p, is-h c.0)
+      (t : Temperature) (p : ℕ) (h : Option ℕ) → HasTemperature t → HasPressure t p → ((x : ℕ) → h ≡ Some x → HasHumidity t x) →
+      with_humidity t p h ≡ Some r → answer_of r ≡ whole
+  with-humidity t p (Some h) is-t is-p is-h e = let k = is-h h refl in cc
+  with-humidity t p None is-t is-p is-h e = cc
 
   with-pressure :
-      (t : PlainTemperature) (p : PlainChannel) → HasTemperature t → (p.taken ≡ true → HasPressure t p) →
-      (with_pressure words counts t p).taken ≡ true → answer_of (with_pressure words counts t p) ≡ whole
-  with-pressure t p is-t is-p e =
-      let b = chosen p.taken _ e in
-      rw b.0 (with-humidity t p _ is-t (is-p b.0) (taken-channel _ _ _ refl) b.1)
+      (t : Temperature) (p : Option ℕ) → HasTemperature t → ((x : ℕ) → p ≡ Some x → HasPressure t x) →
+      with_pressure words counts t p ≡ Some r → answer_of r ≡ whole
+  with-pressure t (Some p) is-t is-p e = with-humidity t p _ is-t (is-p p refl) (λ x. taken-channel _ _ _ x refl) e
+  with-pressure t None is-t is-p e = cc
 
   with-temperature :
-      (t : PlainTemperature) → (t.taken ≡ true → HasTemperature t) →
-      (with_temperature words counts t).taken ≡ true → answer_of (with_temperature words counts t) ≡ whole
-  with-temperature t is-t e =
-      let a = chosen t.taken _ e in
-      rw a.0 (with-pressure t _ (is-t a.0) (taken-channel _ _ _ refl) a.1)
+      (t : Option Temperature) → ((x : Temperature) → t ≡ Some x → HasTemperature x) →
+      with_temperature words counts t ≡ Some r → answer_of r ≡ whole
+  with-temperature (Some t) is-t e = with-pressure t _ (is-t t refl) (λ x. taken-channel _ _ _ x refl) e
+  with-temperature None is-t e = cc
 
-  pub of-counts : (counts_plainly words counts).taken ≡ true → answer_of (counts_plainly words counts) ≡ whole
+  pub of-counts : counts_plainly words counts ≡ Some r → answer_of r ≡ whole
   unfolding counts_plainly
-  of-counts e = with-temperature _ (taken-temperature _ _ _ refl) e
+  of-counts e = with-temperature _ (λ x. taken-temperature _ _ _ x refl) e
+
+-- where a choice between some reading and none is some reading, its test held
+chosen : (b : Bool) (o : Option PlainReading) (r : PlainReading) → cond b o None ≡ Some r → (b ≡ true) × (o ≡ Some r)
+chosen true o r e = (refl, e)
+chosen false o r e = cc
 
 pub is-the-answer : IsTheAnswer
 unfolding read_plainly compensated_words
-is-the-answer words bytes t p h e =
-    let a = chosen (are_enabled t p h) (counts_plainly words (counts_of bytes)) e in
+is-the-answer words bytes t p h r e =
+    let a = chosen (are_enabled t p h) (counts_plainly words (counts_of bytes)) r e in
     let on = enabled t p h a.0 in
-    rw (a.0, on.codes, on.t-on, on.p-on, on.h-on) (of-counts words (counts_of bytes) a.1)
+    rw (on.codes, on.t-on, on.p-on, on.h-on) (of-counts words (counts_of bytes) r a.1)

@@ -13,17 +13,16 @@ use lib.Ieee.Back.{round_whole}
 use lib.Ieee.Exact.{HasValue, round_exact}
 use lib.Ieee.Fits.{down_pos, round-fits, div-fits}
 use lib.Ieee.Scale.{round_same}
-use Rattle.formula.specs.declared.Missing.{Missing}
-use Rattle.formula.specs.declared.TemperatureAnswer.TheVariants as heat
-use Rattle.formula.specs.Answers.{missing}
-use Rattle.compensation.specs.declared.Answer.{Answer}
-use Rattle.compensation.specs.declared.Answer.TheVariants.{Done}
+use Rattle.std.specs.Prelude.{Ok}
+use Rattle.paper.specs.declared.Missing.{Missing}
+use Rattle.paper.specs.Answers.{missing}
+use Rattle.compensation.specs.Compensation.{Answer}
 use Rattle.compensation.specs.declared.Reading.{Reading}
 use Rattle.rooms.specs.declared.Cell.TheVariants as the
 use Rattle.rooms.specs.declared.Cells.{Cells}
 use Rattle.rooms.specs.declared.MapPoint.{MapPoint}
 use Rattle.rooms.specs.Points.{hundredths, over, cells_of}
-use Rattle.rooms.specs.Exact.{Means, Hides, Faithful, pointed, FaithfulDistinct, ZeroIsKnown}
+use Rattle.rooms.specs.Exact.{heat, Means, Hides, Faithful, pointed, FaithfulDistinct, ZeroIsKnown}
 use Rattle.rooms.proofs.Bits.{bit, means, one-meaning}
 
 -- ---- a whole number divided by 2 ^ k
@@ -93,8 +92,8 @@ same {x} {y} {s} {s'} {a} {a'} {c} m n e = one-meaning (subst (λ (z : Float). M
 
 module _ (cells : Answer → Cells) (point : Answer → MapPoint) (f : Faithful cells point) where
   temperatures :
-      (r s : Reading) (y z : ℤ) {fine fine' : ℤ} → r.temperature ≡ heat.Known y fine → s.temperature ≡ heat.Known z fine' →
-      mag y < 2 ^ 31 → mag z < 2 ^ 31 → (point (Done r)).temperature ≡ (point (Done s)).temperature → y ≡ z
+      (r s : Reading) (y z : ℤ) {fine fine' : ℤ} → r.temperature ≡ Ok (heat y fine) → s.temperature ≡ Ok (heat z fine') →
+      mag y < 2 ^ 31 → mag z < 2 ^ 31 → (point (Ok r)).temperature ≡ (point (Ok s)).temperature → y ≡ z
   temperatures r s (pos m) (pos n) d e k l q = ap pos (same (f.warm r d k).exact (f.warm s e l).exact q).1
   temperatures r s (pos m) (negsuc n) d e k l q = let h = (same (f.warm r d k).exact (f.cold s e l).exact q).0 in absurd (omega arith)
   temperatures r s (negsuc m) (pos n) d e k l q = let h = (same (f.cold r d k).exact (f.warm s e l).exact q).0 in absurd (omega arith)

@@ -5,13 +5,12 @@ use mathlib.Core.Path.{refl}
 use lib.IntN.{pos, negsuc}
 use lib.Ieee.{binary64, to_bits, of_int, div}
 use Rattle.laws.specs.Tables.{Row, ◌gives◌, AllHold}
-use Rattle.formula.specs.Answers.{missing}
-use Rattle.rooms.specs.declared.Whole.{Whole}
-use Rattle.rooms.specs.declared.Whole.TheVariants.{Known, Missing}
+use Rattle.std.specs.Prelude.{Ok, Err}
+use Rattle.paper.specs.Answers.{missing}
 use Rattle.rooms.specs.declared.Verdict.{Verdict}
 use Rattle.rooms.specs.declared.Verdict.TheVariants.{Agree, Differ, Unknown}
 use Rattle.rooms.specs.Points.{hundredths, over, pascals, percent}
-use Rattle.rooms.specs.Compared.{compared_channels}
+use Rattle.rooms.specs.Compared.{Whole, compared_channels}
 
 pub bits : List (Row ℕ)
 bits =
@@ -35,24 +34,24 @@ unfolding bits over of_int div to_bits
 bits-hold = refl
 
 nothing : ℕ → Whole
-nothing number = Missing (missing number)
+nothing number = Err (missing number)
 
 pub verdicts : List (Row Verdict)
 unfolding nothing
 verdicts =
     -- one apart: within a tolerance of 1, and not of 0
-    (compared_channels (Known (pos 2508)) (Known (pos 2509)) 1 gives Agree)
-    ∷ (compared_channels (Known (pos 2508)) (Known (pos 2509)) 0 gives Differ)
-    ∷ (compared_channels (Known (pos 2508)) (Known (pos 2508)) 0 gives Agree)
+    (compared_channels (Ok (pos 2508)) (Ok (pos 2509)) 1 gives Agree)
+    ∷ (compared_channels (Ok (pos 2508)) (Ok (pos 2509)) 0 gives Differ)
+    ∷ (compared_channels (Ok (pos 2508)) (Ok (pos 2508)) 0 gives Agree)
     -- across zero
-    ∷ (compared_channels (Known (negsuc 4)) (Known (pos 5)) 10 gives Agree)
-    ∷ (compared_channels (Known (negsuc 4)) (Known (pos 5)) 9 gives Differ)
+    ∷ (compared_channels (Ok (negsuc 4)) (Ok (pos 5)) 10 gives Agree)
+    ∷ (compared_channels (Ok (negsuc 4)) (Ok (pos 5)) 9 gives Differ)
     -- 4,294,967,295 apart, which needs 33 bits with a sign
-    ∷ (compared_channels (Known (negsuc 2147483647)) (Known (pos 2147483647)) 4294967295 gives Agree)
-    ∷ (compared_channels (Known (pos 2147483647)) (Known (negsuc 2147483647)) 4294967294 gives Differ)
+    ∷ (compared_channels (Ok (negsuc 2147483647)) (Ok (pos 2147483647)) 4294967295 gives Agree)
+    ∷ (compared_channels (Ok (pos 2147483647)) (Ok (negsuc 2147483647)) 4294967294 gives Differ)
     -- a missing one agrees with nothing: not with zero, and not with another
-    ∷ (compared_channels (Known (pos 0)) (nothing 10) 4294967295 gives Unknown)
-    ∷ (compared_channels (nothing 12) (Known (pos 0)) 4294967295 gives Unknown)
+    ∷ (compared_channels (Ok (pos 0)) (nothing 10) 4294967295 gives Unknown)
+    ∷ (compared_channels (nothing 12) (Ok (pos 0)) 4294967295 gives Unknown)
     ∷ (compared_channels (nothing 10) (nothing 10) 4294967295 gives Unknown)
     ∷ []
 

@@ -7,21 +7,18 @@ use mathlib.Core.Path.{◌≡◌, refl, sym, ap, ◌∙◌}
 use borrow.Author.Tests.{leb-true, leb-false, le-leb}
 use lib.Dec.{leb}
 use lib.IntN.{ℤ, pos, negsuc, neg_ℤ, nat_abs, ◌+ℤ◌, ◌-ℤ◌, neg_ℤ-neg_ℤ, neg_ℤ-+ℤ, +ℤ_comm, +ℤ_invr}
-use Rattle.formula.specs.declared.Missing as missing
-use Rattle.formula.specs.declared.TemperatureAnswer.{TemperatureAnswer}
-use Rattle.formula.specs.declared.TemperatureAnswer.TheVariants as heat
-use Rattle.formula.specs.declared.ChannelAnswer.{ChannelAnswer}
-use Rattle.formula.specs.declared.ChannelAnswer.TheVariants as channel
-use Rattle.rooms.specs.declared.Whole.{Whole}
-use Rattle.rooms.specs.declared.Whole.TheVariants.{Known, Missing}
+use Rattle.std.specs.Prelude.{Ok, Err}
+use Rattle.paper.specs.declared.Missing.{Missing}
+use Rattle.formula.specs.Answers.{TemperatureAnswer, ChannelAnswer}
+use Rattle.rooms.specs.Exact.{heat}
 use Rattle.rooms.specs.declared.Verdict.TheVariants.{Agree, Differ, Unknown}
 use Rattle.rooms.specs.Points.{channels_of}
-use Rattle.rooms.specs.Compared.{temperature_whole, channel_whole, judged, compared_channels, compared_rooms}
+use Rattle.rooms.specs.Compared.{Whole, temperature_whole, channel_whole, judged, compared_channels, compared_rooms}
 use Rattle.rooms.specs.Honest.{Channel, wholes, temperatures, levels, Apart, Honest, WithItself, HonestChannels, OnlyHonest, HonestRooms}
 
 -- ---- cases that exclude each other
 
-known-missing : {a : ℤ} {m : missing.Missing} → Known a ≡ Missing m → ⊥
+known-missing : {a : ℤ} {m : Missing} → ◌≡◌ {A = Whole} (Ok a) (Err m) → ⊥
 known-missing e = let z : ◌≡◌ {A = ℕ} 0 1 = cc in omega arith
 
 agree_differ : Agree ≡ Differ → ⊥
@@ -36,22 +33,22 @@ differ-unknown e = let z : ◌≡◌ {A = ℕ} 0 1 = cc in omega arith
 -- ---- two values
 
 abbrev value : Whole → ℤ
-value (Known a) = a
-value (Missing m) = pos 0
+value (Ok a) = a
+value (Err m) = pos 0
 
-distance-of : (a b : ℤ) {d : ℕ} → Apart wholes (Known a) (Known b) d → nat_abs (a -ℤ b) ≡ d
+distance-of : (a b : ℤ) {d : ℕ} → Apart wholes (Ok a) (Ok b) d → nat_abs (a -ℤ b) ≡ d
 distance-of a b w =
     ap (λ z. nat_abs (z -ℤ b)) (ap value w.one_has) ∙ ap (λ z. nat_abs (w.first -ℤ z)) (ap value w.two-has) ∙ w.distance_is
 
 module _ (a b : ℤ) where
-  apart : Apart wholes (Known a) (Known b) (nat_abs (a -ℤ b))
+  apart : Apart wholes (Ok a) (Ok b) (nat_abs (a -ℤ b))
   apart = record { first = a; second = b; one_has = refl; two-has = refl; distance_is = refl }
 
-  none : wholes.lacks (Known a) ⊎ wholes.lacks (Known b) → ⊥
+  none : wholes.lacks (Ok a) ⊎ wholes.lacks (Ok b) → ⊥
   none (inl m) = known-missing m.1
   none (inr m) = known-missing m.1
 
-  judge : (tolerance : ℕ) (near : Bool) → leb (nat_abs (a -ℤ b)) tolerance ≡ near → Honest wholes (Known a) (Known b) tolerance (cond near Agree Differ)
+  judge : (tolerance : ℕ) (near : Bool) → leb (nat_abs (a -ℤ b)) tolerance ≡ near → Honest wholes (Ok a) (Ok b) tolerance (cond near Agree Differ)
   judge tolerance true e = record {
     agrees = λ is. (nat_abs (a -ℤ b), apart, leb-true _ _ e);
     agree = λ w l. refl;
@@ -98,34 +95,34 @@ turned a b =
     ap nat_abs (+ℤ_comm a (neg_ℤ b) ∙ ap (λ z. neg_ℤ b +ℤ z) (sym (neg_ℤ-neg_ℤ a)) ∙ sym (neg_ℤ-+ℤ b (neg_ℤ a))) ∙ far (b -ℤ a)
 
 symmetric : (one two : Whole) (tolerance : ℕ) → compared_channels one two tolerance ≡ compared_channels two one tolerance
-symmetric (Known a) (Known b) tolerance = ap (λ d. judged d tolerance) (turned a b)
-symmetric (Known a) (Missing m) tolerance = refl
-symmetric (Missing m) (Known b) tolerance = refl
-symmetric (Missing m) (Missing n) tolerance = refl
+symmetric (Ok a) (Ok b) tolerance = ap (λ d. judged d tolerance) (turned a b)
+symmetric (Ok a) (Err m) tolerance = refl
+symmetric (Err m) (Ok b) tolerance = refl
+symmetric (Err m) (Err n) tolerance = refl
 
 honest : (one two : Whole) (tolerance : ℕ) → Honest wholes one two tolerance (compared_channels one two tolerance)
-honest (Known a) (Known b) tolerance = judge a b tolerance (leb (nat_abs (a -ℤ b)) tolerance) refl
-honest (Known a) (Missing m) tolerance = nothing (Known a) (Missing m) (inr (m, refl)) tolerance
-honest (Missing m) two tolerance = nothing (Missing m) two (inl (m, refl)) tolerance
+honest (Ok a) (Ok b) tolerance = judge a b tolerance (leb (nat_abs (a -ℤ b)) tolerance) refl
+honest (Ok a) (Err m) tolerance = nothing (Ok a) (Err m) (inr (m, refl)) tolerance
+honest (Err m) two tolerance = nothing (Err m) two (inl (m, refl)) tolerance
 
 itself : (one : Whole) (tolerance : ℕ) → WithItself wholes one (compared_channels one one tolerance)
-itself (Known a) tolerance = record {
+itself (Ok a) tolerance = record {
   agree = λ e. ap (λ z. judged (nat_abs z) tolerance) (+ℤ_invr a) ∙ rw (le-leb 0 tolerance (omega arith));
   unknown = λ m. absurd (known-missing m.1);
 }
-itself (Missing m) tolerance = record { agree = λ e. absurd (known-missing (sym e)); unknown = λ n. refl }
+itself (Err m) tolerance = record { agree = λ e. absurd (known-missing (sym e)); unknown = λ n. refl }
 
 pub honest-channels : HonestChannels compared_channels
 honest-channels = record { honest = honest; symmetric = symmetric; itself = itself }
 
 pub only-honest : OnlyHonest compared_channels
-only-honest other h (Known a) (Known b) tolerance = go (leb (nat_abs (a -ℤ b)) tolerance) refl
+only-honest other h (Ok a) (Ok b) tolerance = go (leb (nat_abs (a -ℤ b)) tolerance) refl
   where
-    go : (near : Bool) → leb (nat_abs (a -ℤ b)) tolerance ≡ near → other (Known a) (Known b) tolerance ≡ cond near Agree Differ
-    go true e = (h.honest (Known a) (Known b) tolerance).agree (apart a b) (leb-true _ _ e)
-    go false e = (h.honest (Known a) (Known b) tolerance).differ (apart a b) (leb-false _ _ e)
-only-honest other h (Known a) (Missing m) tolerance = (h.honest (Known a) (Missing m) tolerance).unknown (inr (m, refl))
-only-honest other h (Missing m) two tolerance = (h.honest (Missing m) two tolerance).unknown (inl (m, refl))
+    go : (near : Bool) → leb (nat_abs (a -ℤ b)) tolerance ≡ near → other (Ok a) (Ok b) tolerance ≡ cond near Agree Differ
+    go true e = (h.honest (Ok a) (Ok b) tolerance).agree (apart a b) (leb-true _ _ e)
+    go false e = (h.honest (Ok a) (Ok b) tolerance).differ (apart a b) (leb-false _ _ e)
+only-honest other h (Ok a) (Err m) tolerance = (h.honest (Ok a) (Err m) tolerance).unknown (inr (m, refl))
+only-honest other h (Err m) two tolerance = (h.honest (Err m) two tolerance).unknown (inl (m, refl))
 
 -- ---- channels of another kind, by their whole numbers
 
@@ -174,29 +171,29 @@ temperatures-wholly = record {
   lacking = lacking;
 }
   where
-    back : (c : TemperatureAnswer) {z : ℤ} → temperature_whole c ≡ Known z → temperatures.has c z
-    back (heat.Known v fine) e = (fine, ap (λ z. heat.Known z fine) (ap value e))
-    back (heat.Missing m) e = absurd (known-missing (sym e))
+    back : (c : TemperatureAnswer) {z : ℤ} → temperature_whole c ≡ Ok z → temperatures.has c z
+    back (Ok t) e = (t.fine, ap (λ z. Ok (heat z t.fine)) (ap value e))
+    back (Err m) e = absurd (known-missing (sym e))
 
     lacking : (c : TemperatureAnswer) → wholes.lacks (temperature_whole c) → temperatures.lacks c
-    lacking (heat.Known v fine) n = absurd (known-missing n.1)
-    lacking (heat.Missing m) n = (m, refl)
+    lacking (Ok t) n = absurd (known-missing n.1)
+    lacking (Err m) n = (m, refl)
 
 levels-wholly : Wholly levels channel_whole
 levels-wholly = record {
-  there = λ (n, e, p). ap channel_whole e ∙ ap Known (sym p);
+  there = λ (n, e, p). ap channel_whole e ∙ ap Ok (sym p);
   back = back;
   none = λ (m, e). (m, ap channel_whole e);
   lacking = lacking;
 }
   where
-    back : (c : ChannelAnswer) {z : ℤ} → channel_whole c ≡ Known z → levels.has c z
-    back (channel.Known n) e = (n, refl, sym (ap value e))
-    back (channel.Missing m) e = absurd (known-missing (sym e))
+    back : (c : ChannelAnswer) {z : ℤ} → channel_whole c ≡ Ok z → levels.has c z
+    back (Ok n) e = (n, refl, sym (ap value e))
+    back (Err m) e = absurd (known-missing (sym e))
 
     lacking : (c : ChannelAnswer) → wholes.lacks (channel_whole c) → levels.lacks c
-    lacking (channel.Known n) l = absurd (known-missing l.1)
-    lacking (channel.Missing m) l = (m, refl)
+    lacking (Ok n) l = absurd (known-missing l.1)
+    lacking (Err m) l = (m, refl)
 
 -- ---- two rooms
 

@@ -1,29 +1,29 @@
 -- Two rooms compared: agree where both have a value and the whole numbers differ by at most the tolerance, differ where both have one and they
 -- don't, unknown in all other cases.
-use Rattle.std.specs.Prelude.{ℕ, cond, leb, ℤ, pos, nat_abs, ◌-ℤ◌}
-use Rattle.formula.specs.declared.TemperatureAnswer.{TemperatureAnswer}
-use Rattle.formula.specs.declared.TemperatureAnswer.TheVariants as heat
-use Rattle.formula.specs.declared.ChannelAnswer.{ChannelAnswer}
-use Rattle.formula.specs.declared.ChannelAnswer.TheVariants as channel
+use Rattle.std.specs.Prelude.{ℕ, cond, leb, ℤ, pos, nat_abs, ◌-ℤ◌, Result, Ok, Err}
+use Rattle.paper.specs.declared.Missing.{Missing}
+use Rattle.formula.specs.Answers.{TemperatureAnswer, ChannelAnswer}
 use Rattle.compensation.specs.declared.Reading.{Reading}
-use Rattle.compensation.specs.declared.Answer.{Answer}
-use Rattle.rooms.specs.declared.Whole.{Whole}
-use Rattle.rooms.specs.declared.Whole.TheVariants.{Known, Missing}
+use Rattle.compensation.specs.Compensation.{Answer}
 use Rattle.rooms.specs.declared.Verdict.{Verdict}
 use Rattle.rooms.specs.declared.Verdict.TheVariants.{Agree, Differ, Unknown}
 use Rattle.rooms.specs.declared.Verdicts.{Verdicts}
 use Rattle.rooms.specs.declared.Tolerances.{Tolerances}
 use Rattle.rooms.specs.Points.{channels_of}
 
+-- a channel's whole number, or what stands in its place
+abbrev pub Whole : Type 0
+Whole = Result ℤ Missing
+
 -- ---- whole numbers: the fine temperature is not compared
 
 abbrev pub temperature_whole : TemperatureAnswer → Whole
-temperature_whole (heat.Known value fine) = Known value
-temperature_whole (heat.Missing m) = Missing m
+temperature_whole (Ok t) = Ok t.value
+temperature_whole (Err m) = Err m
 
 abbrev pub channel_whole : ChannelAnswer → Whole
-channel_whole (channel.Known value) = Known (pos value)
-channel_whole (channel.Missing m) = Missing m
+channel_whole (Ok value) = Ok (pos value)
+channel_whole (Err m) = Err m
 
 -- ---- two channels
 
@@ -31,12 +31,12 @@ abbrev pub judged : ℕ → ℕ → Verdict
 judged distance tolerance = cond (leb distance tolerance) Agree Differ
 
 abbrev pub compared_with : ℤ → Whole → ℕ → Verdict
-compared_with a (Known b) tolerance = judged (nat_abs (a -ℤ b)) tolerance
-compared_with a (Missing m) tolerance = Unknown
+compared_with a (Ok b) tolerance = judged (nat_abs (a -ℤ b)) tolerance
+compared_with a (Err m) tolerance = Unknown
 
 abbrev pub compared_channels : Whole → Whole → ℕ → Verdict
-compared_channels (Known a) two tolerance = compared_with a two tolerance
-compared_channels (Missing m) two tolerance = Unknown
+compared_channels (Ok a) two tolerance = compared_with a two tolerance
+compared_channels (Err m) two tolerance = Unknown
 
 -- ---- two rooms
 

@@ -1,15 +1,13 @@
 -- That the map's doubles are exact, said of their 64 bits over whole numbers alone: statements (proofs/Exact.antt).
-use Rattle.std.specs.Prelude.{ℕ, zero, suc, ◌+◌, ◌*◌, ◌/◌, ◌%◌, ◌^◌, ◌<◌, Bool, true, false, ◌≡◌, ℤ, pos, negsuc, Float}
+use Rattle.std.specs.Prelude.{ℕ, zero, suc, ◌+◌, ◌*◌, ◌/◌, ◌%◌, ◌^◌, ◌<◌, Bool, true, false, ◌≡◌, ℤ, pos, negsuc, Float, Ok, Err}
 use Rattle.std.specs.Int.Signed.{mag}
 use Rattle.std.specs.Float.{binary64}
 use Rattle.std.specs.Float.Ieee.{to_bits}
-use Rattle.formula.specs.declared.Missing.{Missing}
-use Rattle.formula.specs.declared.TemperatureAnswer.TheVariants as heat
-use Rattle.formula.specs.declared.ChannelAnswer.TheVariants as channel
-use Rattle.formula.specs.Answers.{missing}
+use Rattle.paper.specs.declared.Missing.{Missing}
+use Rattle.paper.specs.Answers.{missing, refusal}
+use Rattle.formula.specs.declared.Temperature.{Temperature}
 use Rattle.compensation.specs.declared.Reading.{Reading}
-use Rattle.compensation.specs.declared.Answer.{Answer}
-use Rattle.compensation.specs.declared.Answer.TheVariants.{Done, Refused}
+use Rattle.compensation.specs.Compensation.{Answer}
 use Rattle.rooms.specs.declared.Cell.{Cell}
 use Rattle.rooms.specs.declared.Cell.TheVariants as the
 use Rattle.rooms.specs.declared.Cells.{Cells}
@@ -43,6 +41,10 @@ pub record Means (bits sign value divisor : ℕ) : Type 0 where
 abbrev pub OnePattern : Type 0
 OnePattern =
     (bits bits' sign value divisor : ℕ) → 0 < divisor → Means bits sign value divisor → Means bits' sign value divisor → bits ≡ bits'
+
+-- a temperature with its fine temperature
+abbrev pub heat : ℤ → ℤ → Temperature
+heat value fine = record { value = value; fine = fine }
 
 -- ---- what the map shows of a channel
 
@@ -81,14 +83,14 @@ module _ (cells : Answer → Cells) (point : Answer → MapPoint) where
   -- every temperature of 32 bits, with its sign, and every pressure and humidity of 32 bits; 10 to 14 pass through, and a reading refused whole
   -- is missing with its number in all three
   pub record Faithful : Type 0 where
-    pub warm : (r : Reading) {n : ℕ} {fine : ℤ} → r.temperature ≡ heat.Known (pos n) fine → n < 2 ^ 31 → ShowsTemperature (Done r) 0 n
-    pub cold : (r : Reading) {n : ℕ} {fine : ℤ} → r.temperature ≡ heat.Known (negsuc n) fine → n < 2 ^ 31 → ShowsTemperature (Done r) 1 (suc n)
-    pub pressure : (r : Reading) {n : ℕ} → r.pressure ≡ channel.Known n → n < 2 ^ 32 → ShowsPressure (Done r) n
-    pub humidity : (r : Reading) {n : ℕ} → r.humidity ≡ channel.Known n → n < 2 ^ 32 → ShowsHumidity (Done r) n
-    pub no-temperature : (r : Reading) {m : Missing} → r.temperature ≡ heat.Missing m → HidesTemperature (Done r) m
-    pub no-pressure : (r : Reading) {m : Missing} → r.pressure ≡ channel.Missing m → HidesPressure (Done r) m
-    pub no-humidity : (r : Reading) {m : Missing} → r.humidity ≡ channel.Missing m → HidesHumidity (Done r) m
-    pub refused : (n : ℕ) → HidesTemperature (Refused n) (missing n) × HidesPressure (Refused n) (missing n) × HidesHumidity (Refused n) (missing n)
+    pub warm : (r : Reading) {n : ℕ} {fine : ℤ} → r.temperature ≡ Ok (heat (pos n) fine) → n < 2 ^ 31 → ShowsTemperature (Ok r) 0 n
+    pub cold : (r : Reading) {n : ℕ} {fine : ℤ} → r.temperature ≡ Ok (heat (negsuc n) fine) → n < 2 ^ 31 → ShowsTemperature (Ok r) 1 (suc n)
+    pub pressure : (r : Reading) {n : ℕ} → r.pressure ≡ Ok n → n < 2 ^ 32 → ShowsPressure (Ok r) n
+    pub humidity : (r : Reading) {n : ℕ} → r.humidity ≡ Ok n → n < 2 ^ 32 → ShowsHumidity (Ok r) n
+    pub no-temperature : (r : Reading) {m : Missing} → r.temperature ≡ Err m → HidesTemperature (Ok r) m
+    pub no-pressure : (r : Reading) {m : Missing} → r.pressure ≡ Err m → HidesPressure (Ok r) m
+    pub no-humidity : (r : Reading) {m : Missing} → r.humidity ≡ Err m → HidesHumidity (Ok r) m
+    pub refused : (n : ℕ) → HidesTemperature (Err (refusal n)) (missing n) × HidesPressure (Err (refusal n)) (missing n) × HidesHumidity (Err (refusal n)) (missing n)
 
 -- the map point of an answer
 abbrev pub pointed : Answer → MapPoint
@@ -98,14 +100,14 @@ pointed answer = point_of (cells_of answer)
 
 pub record Distinct (point : Answer → MapPoint) : Type 0 where
   pub temperature :
-      (r s : Reading) {y z fine fine' : ℤ} → r.temperature ≡ heat.Known y fine → s.temperature ≡ heat.Known z fine' →
-      mag y < 2 ^ 31 → mag z < 2 ^ 31 → (point (Done r)).temperature ≡ (point (Done s)).temperature → y ≡ z
+      (r s : Reading) {y z fine fine' : ℤ} → r.temperature ≡ Ok (heat y fine) → s.temperature ≡ Ok (heat z fine') →
+      mag y < 2 ^ 31 → mag z < 2 ^ 31 → (point (Ok r)).temperature ≡ (point (Ok s)).temperature → y ≡ z
   pub pressure :
-      (r s : Reading) {m n : ℕ} → r.pressure ≡ channel.Known m → s.pressure ≡ channel.Known n →
-      m < 2 ^ 32 → n < 2 ^ 32 → (point (Done r)).pressure ≡ (point (Done s)).pressure → m ≡ n
+      (r s : Reading) {m n : ℕ} → r.pressure ≡ Ok m → s.pressure ≡ Ok n →
+      m < 2 ^ 32 → n < 2 ^ 32 → (point (Ok r)).pressure ≡ (point (Ok s)).pressure → m ≡ n
   pub humidity :
-      (r s : Reading) {m n : ℕ} → r.humidity ≡ channel.Known m → s.humidity ≡ channel.Known n →
-      m < 2 ^ 32 → n < 2 ^ 32 → (point (Done r)).humidity ≡ (point (Done s)).humidity → m ≡ n
+      (r s : Reading) {m n : ℕ} → r.humidity ≡ Ok m → s.humidity ≡ Ok n →
+      m < 2 ^ 32 → n < 2 ^ 32 → (point (Ok r)).humidity ≡ (point (Ok s)).humidity → m ≡ n
 
 -- whatever the map shows faithfully
 abbrev pub FaithfulDistinct : Type 0
@@ -118,11 +120,11 @@ SameButFlags double known double' known' = (double ≡ double') × (known ≡ tr
 
 pub record ZeroIsKnown (point : Answer → MapPoint) : Type 0 where
   pub temperature :
-      (r s : Reading) {fine : ℤ} {m : Missing} → r.temperature ≡ heat.Known (pos 0) fine → s.temperature ≡ heat.Missing m →
-      SameButFlags (point (Done r)).temperature (point (Done r)).temperature_known (point (Done s)).temperature (point (Done s)).temperature_known
+      (r s : Reading) {fine : ℤ} {m : Missing} → r.temperature ≡ Ok (heat (pos 0) fine) → s.temperature ≡ Err m →
+      SameButFlags (point (Ok r)).temperature (point (Ok r)).temperature_known (point (Ok s)).temperature (point (Ok s)).temperature_known
   pub pressure :
-      (r s : Reading) {m : Missing} → r.pressure ≡ channel.Known 0 → s.pressure ≡ channel.Missing m →
-      SameButFlags (point (Done r)).pressure (point (Done r)).pressure_known (point (Done s)).pressure (point (Done s)).pressure_known
+      (r s : Reading) {m : Missing} → r.pressure ≡ Ok 0 → s.pressure ≡ Err m →
+      SameButFlags (point (Ok r)).pressure (point (Ok r)).pressure_known (point (Ok s)).pressure (point (Ok s)).pressure_known
   pub humidity :
-      (r s : Reading) {m : Missing} → r.humidity ≡ channel.Known 0 → s.humidity ≡ channel.Missing m →
-      SameButFlags (point (Done r)).humidity (point (Done r)).humidity_known (point (Done s)).humidity (point (Done s)).humidity_known
+      (r s : Reading) {m : Missing} → r.humidity ≡ Ok 0 → s.humidity ≡ Err m →
+      SameButFlags (point (Ok r)).humidity (point (Ok r)).humidity_known (point (Ok s)).humidity (point (Ok s)).humidity_known

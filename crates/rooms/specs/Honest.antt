@@ -1,15 +1,12 @@
 -- When two rooms agree, differ or are unknown to each other: statements (proofs/Honest.antt). Unknown is never agreement.
-use Rattle.std.specs.Prelude.{ℕ, ◌≤◌, ◌<◌, ◌⊎◌, ◌≡◌, ℤ, pos, nat_abs, ◌-ℤ◌}
-use Rattle.formula.specs.declared.Missing.{Missing}
-use Rattle.formula.specs.declared.TemperatureAnswer.{TemperatureAnswer}
-use Rattle.formula.specs.declared.TemperatureAnswer.TheVariants as heat
-use Rattle.formula.specs.declared.ChannelAnswer.{ChannelAnswer}
-use Rattle.formula.specs.declared.ChannelAnswer.TheVariants as channel
+use Rattle.std.specs.Prelude.{ℕ, ◌≤◌, ◌<◌, ◌⊎◌, ◌≡◌, ℤ, pos, nat_abs, ◌-ℤ◌, Ok, Err}
+use Rattle.paper.specs.declared.Missing.{Missing}
+use Rattle.paper.specs.Answers.{refusal}
+use Rattle.formula.specs.Answers.{TemperatureAnswer, ChannelAnswer}
 use Rattle.compensation.specs.declared.Reading.{Reading}
-use Rattle.compensation.specs.declared.Answer.{Answer}
-use Rattle.compensation.specs.declared.Answer.TheVariants.{Done, Refused}
-use Rattle.rooms.specs.declared.Whole.{Whole}
-use Rattle.rooms.specs.declared.Whole.TheVariants as whole
+use Rattle.compensation.specs.Compensation.{Answer}
+use Rattle.rooms.specs.Compared.{Whole}
+use Rattle.rooms.specs.Exact.{heat}
 use Rattle.rooms.specs.declared.Verdict.{Verdict}
 use Rattle.rooms.specs.declared.Verdict.TheVariants.{Agree, Differ, Unknown}
 use Rattle.rooms.specs.declared.Verdicts.{Verdicts}
@@ -22,15 +19,15 @@ pub record Channel (C : Type 0) : Type 1 where
   pub lacks : C → Type 0
 
 abbrev pub wholes : Channel Whole
-wholes = record { has = λ c value. c ≡ whole.Known value; lacks = λ c. (m : Missing) × (c ≡ whole.Missing m) }
+wholes = record { has = λ c value. c ≡ Ok value; lacks = λ c. (m : Missing) × (c ≡ Err m) }
 
 -- the hundredths, whatever the fine temperature
 abbrev pub temperatures : Channel TemperatureAnswer
-temperatures = record { has = λ c value. (fine : ℤ) × (c ≡ heat.Known value fine); lacks = λ c. (m : Missing) × (c ≡ heat.Missing m) }
+temperatures = record { has = λ c value. (fine : ℤ) × (c ≡ Ok (heat value fine)); lacks = λ c. (m : Missing) × (c ≡ Err m) }
 
 -- a pressure or a humidity
 abbrev pub levels : Channel ChannelAnswer
-levels = record { has = λ c value. (n : ℕ) × (c ≡ channel.Known n) × (value ≡ pos n); lacks = λ c. (m : Missing) × (c ≡ channel.Missing m) }
+levels = record { has = λ c value. (n : ℕ) × (c ≡ Ok n) × (value ≡ pos n); lacks = λ c. (m : Missing) × (c ≡ Err m) }
 
 -- ---- two channels of any kind
 
@@ -85,8 +82,8 @@ abbrev pub all_unknown : Verdicts
 all_unknown = record { temperature = Unknown; pressure = Unknown; humidity = Unknown }
 
 pub record HonestRooms (compared : Answer → Answer → Tolerances → Verdicts) : Type 0 where
-  pub honest : (r s : Reading) (t : Tolerances) → HonestReadings r s t (compared (Done r) (Done s) t)
-  pub itself : (r : Reading) (t : Tolerances) → ReadingWithItself r (compared (Done r) (Done r) t)
+  pub honest : (r s : Reading) (t : Tolerances) → HonestReadings r s t (compared (Ok r) (Ok s) t)
+  pub itself : (r : Reading) (t : Tolerances) → ReadingWithItself r (compared (Ok r) (Ok r) t)
   -- one that is refused whole is unknown to every room, itself too
-  pub refused : (n : ℕ) (two : Answer) (t : Tolerances) → compared (Refused n) two t ≡ all_unknown
+  pub refused : (n : ℕ) (two : Answer) (t : Tolerances) → compared (Err (refusal n)) two t ≡ all_unknown
   pub symmetric : (one two : Answer) (t : Tolerances) → compared one two t ≡ compared two one t

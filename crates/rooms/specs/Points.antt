@@ -1,16 +1,11 @@
 -- Cells and map points: an answer's three channels as doubles, in hundredths of a degree, Pa and %RH.
-use Rattle.std.specs.Prelude.{ℕ, Bool, true, false, [], ◌∷◌, ℤ, pos, Float}
+use Rattle.std.specs.Prelude.{ℕ, Bool, true, false, [], ◌∷◌, ℤ, pos, Float, Ok, Err}
 use Rattle.std.specs.Float.{fin, binary64}
 use Rattle.std.specs.Float.Ieee.{div, of_int}
-use Rattle.paper.specs.Answers.{Answered, given, refused}
-use Rattle.formula.specs.declared.TemperatureAnswer.{TemperatureAnswer}
-use Rattle.formula.specs.declared.TemperatureAnswer.TheVariants as heat
-use Rattle.formula.specs.declared.ChannelAnswer.{ChannelAnswer}
-use Rattle.formula.specs.declared.ChannelAnswer.TheVariants as channel
-use Rattle.formula.specs.Answers.{missing}
+use Rattle.paper.specs.Answers.{Answered, given, refused, missing}
+use Rattle.formula.specs.Answers.{TemperatureAnswer, ChannelAnswer}
 use Rattle.compensation.specs.declared.Reading.{Reading}
-use Rattle.compensation.specs.declared.Answer.{Answer}
-use Rattle.compensation.specs.declared.Answer.TheVariants.{Done, Refused}
+use Rattle.compensation.specs.Compensation.{Answer}
 use Rattle.rooms.specs.declared.Cell.{Cell}
 use Rattle.rooms.specs.declared.Cell.TheVariants.{Temperature, Pressure, Humidity, Missing}
 use Rattle.rooms.specs.declared.Cells.{Cells}
@@ -20,14 +15,14 @@ use Rattle.rooms.specs.declared.MapPoint.{MapPoint}
 
 abbrev pub missing_with : ℕ → Reading
 missing_with number = record {
-  temperature = heat.Missing (missing number);
-  pressure = channel.Missing (missing number);
-  humidity = channel.Missing (missing number);
+  temperature = Err (missing number);
+  pressure = Err (missing number);
+  humidity = Err (missing number);
 }
 
 abbrev pub channels_of : Answer → Reading
-channels_of (Done reading) = reading
-channels_of (Refused number) = missing_with number
+channels_of (Ok reading) = reading
+channels_of (Err why) = missing_with why.number
 
 -- ---- doubles: `fin false m (pos e)` is m * 2 ^ e, so that the divisors are 256.0 and 1024.0; `div` and `of_int` round as IEEE 754 says
 
@@ -47,16 +42,16 @@ percent value = over 10 value
 -- ---- cells
 
 abbrev pub temperature_cell : TemperatureAnswer → Cell
-temperature_cell (heat.Known value fine) = Temperature (hundredths value)
-temperature_cell (heat.Missing m) = Missing m
+temperature_cell (Ok t) = Temperature (hundredths t.value)
+temperature_cell (Err m) = Missing m
 
 abbrev pub pressure_cell : ChannelAnswer → Cell
-pressure_cell (channel.Known value) = Pressure (pascals value)
-pressure_cell (channel.Missing m) = Missing m
+pressure_cell (Ok value) = Pressure (pascals value)
+pressure_cell (Err m) = Missing m
 
 abbrev pub humidity_cell : ChannelAnswer → Cell
-humidity_cell (channel.Known value) = Humidity (percent value)
-humidity_cell (channel.Missing m) = Missing m
+humidity_cell (Ok value) = Humidity (percent value)
+humidity_cell (Err m) = Missing m
 
 abbrev pub reading_cells : Reading → Cells
 reading_cells r = record {

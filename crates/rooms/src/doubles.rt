@@ -10,59 +10,42 @@ pub fn temperature(answer: TemperatureAnswer) -> Cell
     ensures { result ≡ points.temperature_cell answer }
 {
     match answer {
-        TemperatureAnswer::Missing(missing) => Cell::Missing(missing),
-        TemperatureAnswer::Known { value, fine: _ } => Cell::Temperature(value as f64),
+        Ok(t) => Cell::Temperature(t.value as f64),
+        Err(missing) => Cell::Missing(missing),
     }
 }
 
-// A pressure as a cell, in Pa.
+// A pressure as a cell, in Pa: the whole number divided by 256.
 pub fn pressure(answer: ChannelAnswer) -> Cell
     ensures { result ≡ points.pressure_cell answer }
 {
     match answer {
-        ChannelAnswer::Missing(missing) => Cell::Missing(missing),
-        ChannelAnswer::Known(value) => Cell::Pressure(pascals(value)),
+        Ok(value) => Cell::Pressure((value as f64) / 256.0),
+        Err(missing) => Cell::Missing(missing),
     }
 }
 
-// A humidity as a cell, in %RH.
+// A humidity as a cell, in %RH: the whole number divided by 1024.
 pub fn humidity(answer: ChannelAnswer) -> Cell
     ensures { result ≡ points.humidity_cell answer }
 {
     match answer {
-        ChannelAnswer::Missing(missing) => Cell::Missing(missing),
-        ChannelAnswer::Known(value) => Cell::Humidity(percent(value)),
+        Ok(value) => Cell::Humidity((value as f64) / 1024.0),
+        Err(missing) => Cell::Missing(missing),
     }
-}
-
-// The whole number of a pressure divided by 256.
-fn pascals(value: u32) -> f64
-    ensures { result ≡ points.pascals value }
-{
-    (value as f64) / 256.0
-}
-
-// The whole number of a humidity divided by 1024.
-fn percent(value: u32) -> f64
-    ensures { result ≡ points.percent value }
-{
-    (value as f64) / 1024.0
 }
 
 // Three cells on a map point.
 pub fn lay(cells: Cells) -> MapPoint
     ensures { result ≡ points.point_of cells }
 {
-    let t = cells.temperature;
-    let p = cells.pressure;
-    let h = cells.humidity;
     MapPoint {
-        temperature: double(t),
-        pressure: double(p),
-        humidity: double(h),
-        temperature_known: is_known(t),
-        pressure_known: is_known(p),
-        humidity_known: is_known(h),
+        temperature: double(cells.temperature),
+        pressure: double(cells.pressure),
+        humidity: double(cells.humidity),
+        temperature_known: is_known(cells.temperature),
+        pressure_known: is_known(cells.pressure),
+        humidity_known: is_known(cells.humidity),
     }
 }
 
@@ -71,9 +54,7 @@ fn double(cell: Cell) -> f64
     ensures { result ≡ points.double cell }
 {
     match cell {
-        Cell::Temperature(value) => value,
-        Cell::Pressure(value) => value,
-        Cell::Humidity(value) => value,
+        Cell::Temperature(value) | Cell::Pressure(value) | Cell::Humidity(value) => value,
         Cell::Missing(_) => 0.0,
     }
 }
@@ -82,10 +63,5 @@ fn double(cell: Cell) -> f64
 fn is_known(cell: Cell) -> bool
     ensures { result ≡ points.is_known cell }
 {
-    match cell {
-        Cell::Temperature(_) => true,
-        Cell::Pressure(_) => true,
-        Cell::Humidity(_) => true,
-        Cell::Missing(_) => false,
-    }
+    !matches!(cell, Cell::Missing(_))
 }

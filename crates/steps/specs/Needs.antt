@@ -1,12 +1,11 @@
 -- What a formula needs: its steps' true results, which have to fit the width, and its tests, one after the other in the order of evaluation.
 -- A table of needs is written with `step` and `check`; the first need that is not met decides.
-use Rattle.std.specs.Prelude.{ℕ, ◌^◌, Bool, true, cond, ◌&&◌, List, [], ◌∷◌, ℤ, pos, ◌*ℤ◌}
+use Rattle.std.specs.Prelude.{ℕ, ◌^◌, Bool, true, cond, ◌&&◌, List, [], ◌∷◌, ℤ, pos, ◌*ℤ◌, Ok, Err}
 use Rattle.std.specs.Int.Signed.{quot_z, shr_z}
 use Rattle.paper.specs.Numbers as no
+use Rattle.paper.specs.Answers.{missing}
 use Rattle.steps.specs.declared.Signed.{Signed}
-use Rattle.steps.specs.declared.Num.{Num}
-use Rattle.steps.specs.declared.Num.TheVariants.{Value, Broke}
-use Rattle.steps.specs.Step.{fits}
+use Rattle.steps.specs.Step.{Num, fits}
 
 -- ---- over whole numbers, with C's precedence: a right shift rounds down, a left shift multiplies, a quotient rounds toward zero
 
@@ -53,5 +52,5 @@ number (hold b n) = n
 
 -- the value, or the number of the first need that is not met
 unfoldable pub verdict : Signed → List Need → ℤ → Num
-verdict w [] z = Value z
-verdict w (d ∷ ds) z = cond (met w d) (verdict w ds z) (Broke (number d))
+verdict w [] z = Ok z
+verdict w (d ∷ ds) z = cond (met w d) (verdict w ds z) (Err (missing (number d)))

@@ -16,3 +16,4 @@ pub mod Stages
 pub mod Refusals
 pub mod Sizes
 pub mod Examples
+pub mod OneAnswer

@@ -1,58 +1,16 @@
--- Stores one after the other put bytes in the place of as many, and bytes laid after bytes are both laid in one.
-use Prim.Native.Nat.{ℕ, suc, ◌+◌, ◌≤◌}
-use mathlib.Core.List.{List, [], ◌∷◌, ◌++◌, append_assoc}
+-- Bytes laid after bytes are both laid in one.
+use Prim.Native.Nat.{ℕ, ◌+◌, ◌≤◌}
+use mathlib.Core.List.{List, ◌++◌, append_assoc}
 use mathlib.Core.Path.{◌≡◌, refl, sym, ap, ◌∙◌}
 use native.Mathlib.Omega.{arith}
-use lib.ListN.{length, set, take, drop, length-append, take-append-drop}
-use lib.Seq.{sets-eq, take_at, drop_at, length-take-le, drop-drop}
-use Rattle.visit.specs.declared.Answer.{Answer}
-use Rattle.visit.specs.declared.Answer.TheVariants.{Value, Missing}
-use Rattle.visit_bytes.specs.Bytes.{answer_bytes, answer_size, slot_bytes, value_bytes}
+use lib.ListN.{length, take, drop, length-append}
+use lib.Seq.{take_at, drop_at, length-take-le, drop-drop}
+use Rattle.std.specs.Prelude.{Ok, Err}
+use Rattle.visit.specs.declared.Slot.{Slot}
+use Rattle.visit.specs.Steps.{Answer}
+use Rattle.visit_bytes.specs.Bytes.{answer_bytes, answer_size, slot_bytes, slot_size, value_bytes}
 use Rattle.visit_bytes.specs.Laid.{over}
 use Rattle.visit.specs.Tags as tag
-
--- ---- stores
-
-module _ (at : ℕ) (lent : List ℕ) where
-  pub three-over : (a b c : ℕ) → at + 3 ≤ length lent
-      → set (set (set lent at a) (at + 1) b) (at + 2) c ≡ over (a ∷ b ∷ c ∷ []) at lent
-  unfolding over
-  three-over a b c r =
-      let z₁ : at + 1 ≡ suc at = omega arith in
-      let z₂ : at + 2 ≡ suc (suc at) = omega arith in
-      rw (z₁, z₂) (sets-eq (a ∷ b ∷ c ∷ []) lent at r ∙ append_assoc (take at lent) (a ∷ b ∷ c ∷ []) (drop (at + 3) lent))
-
-  pub five-over : (a b c d e : ℕ) → at + 5 ≤ length lent
-      → set (set (set (set (set lent at a) (at + 1) b) (at + 2) c) (at + 3) d) (at + 4) e ≡ over (a ∷ b ∷ c ∷ d ∷ e ∷ []) at lent
-  unfolding over
-  five-over a b c d e r =
-      let z₁ : at + 1 ≡ suc at = omega arith in
-      let z₂ : at + 2 ≡ suc (suc at) = omega arith in
-      let z₃ : at + 3 ≡ suc (suc (suc at)) = omega arith in
-      let z₄ : at + 4 ≡ suc (suc (suc (suc at))) = omega arith in
-      rw (z₁, z₂, z₃, z₄)
-      (sets-eq (a ∷ b ∷ c ∷ d ∷ e ∷ []) lent at r ∙ append_assoc (take at lent) (a ∷ b ∷ c ∷ d ∷ e ∷ []) (drop (at + 5) lent))
-
-  pub seven-over : (a b c d e f g : ℕ) → at + 7 ≤ length lent
-      → set (set (set (set (set (set (set lent at a) (at + 1) b) (at + 2) c) (at + 3) d) (at + 4) e) (at + 5) f) (at + 6) g
-      ≡ over (a ∷ b ∷ c ∷ d ∷ e ∷ f ∷ g ∷ []) at lent
-  unfolding over
-  seven-over a b c d e f g r =
-      let z₁ : at + 1 ≡ suc at = omega arith in
-      let z₂ : at + 2 ≡ suc (suc at) = omega arith in
-      let z₃ : at + 3 ≡ suc (suc (suc at)) = omega arith in
-      let z₄ : at + 4 ≡ suc (suc (suc (suc at))) = omega arith in
-      let z₅ : at + 5 ≡ suc (suc (suc (suc (suc at)))) = omega arith in
-      let z₆ : at + 6 ≡ suc (suc (suc (suc (suc (suc at))))) = omega arith in
-      rw (z₁, z₂, z₃, z₄, z₅, z₆)
-      (sets-eq (a ∷ b ∷ c ∷ d ∷ e ∷ f ∷ g ∷ []) lent at r
-      ∙ append_assoc (take at lent) (a ∷ b ∷ c ∷ d ∷ e ∷ f ∷ g ∷ []) (drop (at + 7) lent))
-
--- ---- bytes after bytes
-
-pub over_nothing : (at : ℕ) (lent : List ℕ) → lent ≡ over [] at lent
-unfolding over
-over_nothing at lent = let z : at + 0 ≡ at = omega arith in rw z (sym (take-append-drop at lent))
 
 pub over-then : (a b : List ℕ) (at next : ℕ) (lent : List ℕ) → next ≡ at + length a → next + length b ≤ length lent
     → over b next (over a at lent) ≡ over (a ++ b) at lent
@@ -74,26 +32,26 @@ over-then a b at next lent n r =
     ∙ ap (λ (l : List ℕ). take at lent ++ l) (sym (append_assoc a b (drop (next + length b) lent))))
 
 pub answer-length : (tagged : ℕ) (a : Answer) → length (answer_bytes tagged a) ≡ answer_size a
-answer-length tagged (Value v) = refl
-answer-length tagged (Missing n) = refl
+answer-length tagged (Ok v) = refl
+answer-length tagged (Err a) = refl
 
-module _ (time : ℕ) (t p h : Answer) (at m n : ℕ) (lent one two three four : List ℕ) where
+module _ (s : Slot) (at m n : ℕ) (lent one two three four : List ℕ) where
   -- four fields, each after the one before
-  pub slot-over : at + (7 + answer_size t + answer_size p + answer_size h) ≤ length lent → m ≡ answer_size t → n ≡ answer_size p
-      → one ≡ over (value_bytes tag.time time) at lent
-      → two ≡ over (answer_bytes tag.temperature t) (at + 7) one
-      → three ≡ over (answer_bytes tag.pressure p) (at + 7 + m) two
-      → four ≡ over (answer_bytes tag.humidity h) (at + 7 + m + n) three
-      → four ≡ over (slot_bytes time t p h) at lent
+  pub slot-over : at + slot_size s ≤ length lent → m ≡ answer_size s.temperature → n ≡ answer_size s.pressure
+      → one ≡ over (value_bytes tag.time s.time) at lent
+      → two ≡ over (answer_bytes tag.temperature s.temperature) (at + 7) one
+      → three ≡ over (answer_bytes tag.pressure s.pressure) (at + 7 + m) two
+      → four ≡ over (answer_bytes tag.humidity s.humidity) (at + 7 + m + n) three
+      → four ≡ over (slot_bytes s) at lent
   unfolding slot_bytes
   slot-over r em en e₁ e₂ e₃ e₄ =
-      let v = value_bytes tag.time time in
-      let b = answer_bytes tag.temperature t in
-      let d = answer_bytes tag.pressure p in
-      let f = answer_bytes tag.humidity h in
-      let lt : length b ≡ answer_size t = answer-length tag.temperature t in
-      let lp : length d ≡ answer_size p = answer-length tag.pressure p in
-      let lh : length f ≡ answer_size h = answer-length tag.humidity h in
+      let v = value_bytes tag.time s.time in
+      let b = answer_bytes tag.temperature s.temperature in
+      let d = answer_bytes tag.pressure s.pressure in
+      let f = answer_bytes tag.humidity s.humidity in
+      let lt : length b ≡ answer_size s.temperature = answer-length tag.temperature s.temperature in
+      let lp : length d ≡ answer_size s.pressure = answer-length tag.pressure s.pressure in
+      let lh : length f ≡ answer_size s.humidity = answer-length tag.humidity s.humidity in
       let l₁ : length (v ++ b) ≡ 7 + length b = length-append v b in
       let l₂ : length ((v ++ b) ++ d) ≡ length (v ++ b) + length d = length-append (v ++ b) d in
       let s₁ : two ≡ over (v ++ b) at lent = e₂ ∙ ap (over b (at + 7)) e₁ ∙ over-then v b at (at + 7) lent refl (omega arith) in

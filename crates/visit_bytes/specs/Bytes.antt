@@ -1,9 +1,9 @@
 -- The bytes that a step adds to a record, and how many they are. An opened group adds its header, which says how many bytes the group holds.
-use Rattle.std.specs.Prelude.{ℕ, ◌+◌, ◌/◌, ◌%◌, List, [], ◌∷◌, ◌++◌}
-use Rattle.visit.specs.declared.Answer.{Answer}
-use Rattle.visit.specs.declared.Answer.TheVariants.{Value, Missing}
+use Rattle.std.specs.Prelude.{ℕ, ◌+◌, ◌/◌, ◌%◌, List, [], ◌∷◌, ◌++◌, Ok, Err}
+use Rattle.visit.specs.declared.Slot.{Slot}
 use Rattle.visit.specs.declared.Step.{Step}
-use Rattle.visit.specs.declared.Step.TheVariants.{Open, Slot, Close, Stray}
+use Rattle.visit.specs.declared.Step.TheVariants.{Open as opened, Slot as slotted, Close as closed, Stray as stray}
+use Rattle.visit.specs.Steps.{Answer}
 use Rattle.visit.specs.Tags as tag
 use Rattle.visit.specs.Tree.{four_bytes}
 
@@ -19,29 +19,32 @@ abbrev pub missing_bytes : ℕ → ℕ → List ℕ
 missing_bytes tagged n = tag.missing ∷ 0 ∷ 2 ∷ tagged ∷ n % 256 ∷ []
 
 abbrev pub answer_bytes : ℕ → Answer → List ℕ
-answer_bytes tagged (Value v) = value_bytes tagged v
-answer_bytes tagged (Missing n) = missing_bytes tagged n
+answer_bytes tagged (Ok v) = value_bytes tagged v
+answer_bytes tagged (Err a) = missing_bytes tagged a.number
 
-unfoldable pub slot_bytes : ℕ → Answer → Answer → Answer → List ℕ
-slot_bytes time t p h =
-    value_bytes tag.time time
-    ++ (answer_bytes tag.temperature t ++ (answer_bytes tag.pressure p ++ answer_bytes tag.humidity h))
+unfoldable pub slot_bytes : Slot → List ℕ
+slot_bytes s =
+    value_bytes tag.time s.time
+    ++ (answer_bytes tag.temperature s.temperature ++ (answer_bytes tag.pressure s.pressure ++ answer_bytes tag.humidity s.humidity))
 
 -- a close adds none
 unfoldable pub lead : Step → ℕ → List ℕ
-lead Open held = header_bytes held
-lead (Slot time t p h) held = slot_bytes time t p h
-lead Close held = []
-lead Stray held = []
+lead opened held = header_bytes held
+lead (slotted s) held = slot_bytes s
+lead closed held = []
+lead stray held = []
 
 -- ---- how many
 
 abbrev pub answer_size : Answer → ℕ
-answer_size (Value v) = 7
-answer_size (Missing n) = 5
+answer_size (Ok v) = 7
+answer_size (Err a) = 5
+
+abbrev pub slot_size : Slot → ℕ
+slot_size s = 7 + answer_size s.temperature + answer_size s.pressure + answer_size s.humidity
 
 abbrev pub size : Step → ℕ
-size Open = 3
-size (Slot time t p h) = 7 + answer_size t + answer_size p + answer_size h
-size Close = 0
-size Stray = 0
+size opened = 3
+size (slotted s) = slot_size s
+size closed = 0
+size stray = 0

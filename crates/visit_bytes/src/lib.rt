@@ -16,37 +16,27 @@ pub fn size(step: Step) -> usize
 {
     match step {
         Step::Open => visit::HEADER,
-        Step::Slot {
-            time: _,
-            temperature,
-            pressure,
-            humidity,
-        } => sizes::slot(temperature, pressure, humidity),
-        Step::Close => 0,
-        Step::Stray => 0,
+        Step::Slot(slot) => sizes::slot(slot),
+        Step::Close | Step::Stray => 0,
     }
 }
 
 // A step's bytes, from a place on.
+#[tactic(auto, unfolding(crate::specs::Bytes::lead, crate::specs::Laid::over))]
 fn lay(step: Step, held: usize, at: usize, out: &mut [u8])
     requires { at + adds.size step ≤ length out.old }
     ensures { out.new ≡ over (adds.lead step held) at out.old }
 {
     match step {
         Step::Open => fields::lay_header(held, at, out),
-        Step::Slot {
-            time,
-            temperature,
-            pressure,
-            humidity,
-        } => fields::lay_slot(time, temperature, pressure, humidity, at, out),
-        Step::Close => {}
-        Step::Stray => {}
+        Step::Slot(slot) => fields::lay_slot(slot, at, out),
+        Step::Close | Step::Stray => {}
     }
 }
 
 // Lays a step's bytes down so that they end where the next step's begin, and gives the place where they begin.
 // An opened group is told how many bytes it holds. Where the bytes have no room, nothing is written and the place stays.
+#[tactic(auto, unfolding(crate::specs::Laid::laid_back))]
 pub fn lay_back(step: Step, held: usize, end: usize, out: &mut [u8]) -> usize
     ensures { (result, out.new) ≡ laid_back step held end out.old }
 {

@@ -2,6 +2,7 @@
 ghost use Rattle.std.specs.Prelude.{◌≡◌};
 ghost use Rattle.visit.specs.Writer as writer;
 
+use paper::Refusal;
 use visit::{Holds, Stage, Turn};
 
 // One group deeper, or 21.
@@ -9,9 +10,11 @@ pub(crate) fn deeper(left: u8) -> Turn
     ensures { result ≡ writer.deeper left }
 {
     if left == 0 {
-        return Turn::Halt(paper::TOO_DEEP);
+        return Err(Refusal {
+            number: paper::TOO_DEEP,
+        });
     }
-    Turn::Onward(Stage::Open(left - 1, Holds::Nothing))
+    Ok(Stage::Open(left - 1, Holds::Nothing))
 }
 
 // After a group is closed: the group around it, or the record's end.

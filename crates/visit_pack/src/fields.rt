@@ -1,149 +1,90 @@
 // Lines with a value: the four fields of a slot, in their order.
-use crate::Pack;
-use crate::groups::one_more;
-use bench_bytes::rest;
-use visit::{Answer, Step};
+use crate::faults::Fault;
+use crate::{Holds, Pack};
+use visit::{Answer, Slot, Step};
 use visit_typed::Typed;
 
-// The value of a field: 5 a time, 6 a temperature, 7 a pressure, 8 a humidity.
-fn value(name: u8, text: &[u8]) -> Typed {
-    match name {
-        5 => visit_typed::time(text),
-        6 => visit_typed::temperature(text),
-        7 => visit_typed::pressure(text),
-        _ => visit_typed::humidity(text),
-    }
+// The fields of a slot.
+#[derive(Clone, Copy, PartialEq)]
+pub(crate) enum Field {
+    Time,
+    Temperature,
+    Pressure,
+    Humidity,
 }
 
-// What is wrong with a field's value.
-fn fault_of(name: u8, typed: Typed) -> u8 {
-    match typed {
-        Typed::Value(_) => return 0,
-        Typed::Missing(_) => return 0,
-        Typed::Unwritten => return if name < 9 { name + 2 } else { 0 },
-        Typed::Outside => return 11,
-        Typed::Uneven => return if name == 7 { 12 } else { 13 },
-        Typed::NoReason => return 14,
-    }
-}
-
-// The answer of a value. A value with a fault is never laid down.
-fn answer(typed: Typed) -> Answer {
-    match typed {
-        Typed::Value(word) => return Answer::Value(word),
-        Typed::Missing(number) => return Answer::Missing(number),
-        Typed::Unwritten => return Answer::Missing(0),
-        Typed::Outside => return Answer::Missing(0),
-        Typed::Uneven => return Answer::Missing(0),
-        Typed::NoReason => return Answer::Missing(0),
-    }
-}
-
-// Lays down a slot of a time whose answers are still to come.
-fn lay_time(typed: Typed, k: usize, steps: &mut [u32]) {
-    if let Typed::Value(time) = typed {
-        visit_step::lay(
-            Step::Slot {
-                time,
-                temperature: Answer::Missing(0),
-                pressure: Answer::Missing(0),
-                humidity: Answer::Missing(0),
-            },
-            k,
-            steps,
-        );
-    }
-}
-
-// A slot with one answer more.
-fn with_answer(name: u8, a: Answer, slot: Step) -> Step {
-    match slot {
-        Step::Slot {
-            time,
-            temperature,
-            pressure,
-            humidity,
-        } => {
-            if name == 6 {
-                return Step::Slot {
-                    time,
-                    temperature: a,
-                    pressure,
-                    humidity,
-                };
-            }
-            if name == 7 {
-                return Step::Slot {
-                    time,
-                    temperature,
-                    pressure: a,
-                    humidity,
-                };
-            }
-            return Step::Slot {
-                time,
-                temperature,
-                pressure,
-                humidity: a,
-            };
+impl Field {
+    // The field that stands after this one in a slot.
+    fn next(self) -> Option<Field> {
+        match self {
+            Field::Time => Some(Field::Temperature),
+            Field::Temperature => Some(Field::Pressure),
+            Field::Pressure => Some(Field::Humidity),
+            Field::Humidity => None,
         }
-        Step::Open => return slot,
-        Step::Close => return slot,
-        Step::Stray => return slot,
+    }
+
+    // What a text says as a value of this field.
+    fn read(self, text: &[u8]) -> Typed {
+        match self {
+            Field::Time => visit_typed::time(text),
+            Field::Temperature => visit_typed::temperature(text),
+            Field::Pressure => visit_typed::pressure(text),
+            Field::Humidity => visit_typed::humidity(text),
+        }
+    }
+
+    // A slot with this field filled in. A time is never missing.
+    fn fill(self, answer: Answer, slot: Slot) -> Slot {
+        match self {
+            Field::Time => Slot {
+                time: answer.unwrap_or(slot.time),
+                ..slot
+            },
+            Field::Temperature => Slot {
+                temperature: answer,
+                ..slot
+            },
+            Field::Pressure => Slot {
+                pressure: answer,
+                ..slot
+            },
+            Field::Humidity => Slot {
+                humidity: answer,
+                ..slot
+            },
+        }
     }
 }
 
-// Lays a field down in the slot that the list has at a place.
-fn lay(name: u8, typed: Typed, k: usize, steps: &mut [u32]) {
-    if name == 5 {
-        lay_time(typed, k, steps);
-        return;
-    }
-    let slot = with_answer(name, answer(typed), visit_step::step_at(steps, k));
-    visit_step::lay(slot, k, steps);
-}
+// A slot before its first field.
+const BLANK: Slot = Slot {
+    time: 0,
+    temperature: Ok(0),
+    pressure: Ok(0),
+    humidity: Ok(0),
+};
 
-// What is wrong with where a field's line stands.
-fn fault(pack: Pack, depth: usize, name: u8) -> u8 {
-    let open = pack.place.level as usize;
-    if (open == 0) | (depth != open) | pack.groups {
-        return 3;
+// Takes the line of a field, with what stands after its name: after the fourth the slot is whole, and is laid down.
+pub(crate) fn take(pack: &mut Pack, depth: usize, field: Field, text: &[u8]) -> Result<(), Fault> {
+    let (slot, expected) = match pack.holds {
+        Holds::Nothing => (BLANK, Some(Field::Time)),
+        Holds::Slot(slot, expected) => (slot, expected),
+        Holds::Groups => return Err(Fault::Depth),
+    };
+    if pack.place.level == 0 || depth != usize::from(pack.place.level) {
+        return Err(Fault::Depth);
     }
-    if name as usize == pack.fields as usize + 5 {
-        0
-    } else {
-        4
+    if expected != Some(field) {
+        return Err(Fault::Order);
     }
-}
-
-// Lays a good field down: after the fourth the slot is whole.
-fn lay_good(mut pack: Pack, name: u8, typed: Typed, steps: &mut [u32]) -> Pack {
-    lay(name, typed, pack.steps, steps);
-    if pack.fields < 4 {
-        pack.fields += 1;
+    let answer = field
+        .read(text)
+        .map_err(|fault| Fault::Value(field, fault))?;
+    let slot = field.fill(answer, slot);
+    pack.holds = Holds::Slot(slot, field.next());
+    if field == Field::Humidity {
+        pack.lay(Step::Slot(slot));
     }
-    if name == 8 {
-        pack.steps = one_more(pack.steps);
-    }
-    pack
-}
-
-// Lays a field down, unless its value is bad.
-fn lay_typed(mut pack: Pack, name: u8, typed: Typed, steps: &mut [u32]) -> Pack {
-    let number = fault_of(name, typed);
-    if number > 0 {
-        pack.fault = number;
-        return pack;
-    }
-    lay_good(pack, name, typed, steps)
-}
-
-// Takes the line of a field, with what stands after its name.
-pub(crate) fn take(mut pack: Pack, depth: usize, name: u8, text: &[u8], steps: &mut [u32]) -> Pack {
-    let number = fault(pack, depth, name);
-    if number > 0 {
-        pack.fault = number;
-        return pack;
-    }
-    lay_typed(pack, name, value(name, rest(text, 1)), steps)
+    Ok(())
 }

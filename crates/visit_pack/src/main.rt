@@ -7,154 +7,131 @@ mod groups; // lines with a group's name
 mod lines; // a line's parts
 
 use bench_bytes::{front, rest};
+use faults::{BadLine, Fault, TextError};
+use fields::Field;
+use lines::Name;
+use paper::Refusal;
 use std::io;
 use std::io::Print;
 use std::process::ExitCode;
-use visit_input::Input;
+use visit::{Slot, Step};
 use visit_place::Place;
-use visit_write::Written;
+
+// What the innermost open group holds so far.
+#[derive(Clone, Copy)]
+pub(crate) enum Holds {
+    Nothing,
+    Groups,
+    // A slot as far as it is filled in, and the field that it lacks first.
+    Slot(Slot, Option<Field>),
+}
 
 // What is kept from line to line.
-#[derive(Clone, Copy)]
-pub struct Pack {
-    // Lines passed, and steps laid down.
-    pub lines: usize,
+#[derive(Drop)]
+pub(crate) struct Pack<'a> {
+    // The list that steps are laid down in, and how many are.
+    pub list: &'a mut [u32],
     pub steps: usize,
-    // The open groups, whether the innermost holds groups, and how many fields of a slot it holds.
+    // The open groups, and what the innermost holds.
     pub place: Place,
-    pub groups: bool,
-    pub fields: u8,
-    // What is wrong with the last line; 0 for nothing.
-    pub fault: u8,
+    pub holds: Holds,
+}
+
+impl Pack<'_> {
+    // Lays a step down, and goes on to the next.
+    fn lay(&mut self, step: Step) {
+        visit_step::lay(step, self.steps, self.list);
+        self.steps = self.steps.saturating_add(1);
+        self.place = visit_place::after(self.place, step);
+    }
 }
 
 // One byte more than the longest text, so that a longer one is seen to be too long.
 const TEXT: usize = 1048577;
 
 // Words and steps of a list that holds the steps of every record.
-const WORDS: usize = 131072;
+const WORDS: usize = STEPS * visit::WORDS;
 
 const STEPS: usize = 16384;
 
-// Nothing is read yet.
-fn nothing() -> Pack {
-    let place = visit_place::start();
-    Pack {
-        lines: 0,
-        steps: 0,
-        place,
-        groups: false,
-        fields: 0,
-        fault: 0,
-    }
-}
-
-// Takes the line of a word that begins after so many spaces and ends at a place.
-fn take_word(mut pack: Pack, body: &[u8], spaces: usize, end: usize, steps: &mut [u32]) -> Pack {
-    let name = lines::name(rest(front(body, end), spaces));
-    let number = lines::fault(spaces, name);
-    if number > 0 {
-        pack.fault = number;
-        return pack;
-    }
-    if name < 5 {
-        return groups::take(
-            pack,
-            (spaces % 16 / 2 + 1) as u8,
-            name,
-            rest(body, end),
-            steps,
-        );
-    }
-    fields::take(pack, spaces / 2, name, rest(body, end), steps)
-}
-
 // Takes a line: one of spaces alone is passed over, and so is one that begins with a mark after them.
-fn take(mut pack: Pack, line: &[u8], steps: &mut [u32]) -> Pack {
-    pack.lines = groups::one_more(pack.lines);
+fn take(pack: &mut Pack, line: &[u8]) -> Result<(), Fault> {
     let spaces = lines::spaces(line);
-    if lines::is_passed_over(line, spaces) {
-        return pack;
+    let text = rest(line, spaces);
+    if matches!(text.first(), None | Some(b'#')) {
+        return Ok(());
     }
-    let body = front(line, lines::remark(line, spaces));
-    take_word(pack, body, spaces, lines::find(body, spaces, b' '), steps)
-}
-
-// Takes the text's lines, up to the first bad one.
-fn take_lines(text: &[u8], steps: &mut [u32]) -> Pack {
-    let mut pack = nothing();
-    let mut from = 0;
-    while from < text.len() {
-        let end = lines::find(text, from, b'\n');
-        pack = take(pack, rest(front(text, end), from), steps);
-        if pack.fault > 0 {
-            return pack;
-        }
-        from = lines::after(text, end);
-    }
-    groups::end(pack, steps)
-}
-
-// Writes the record of so many words of steps.
-// If it can't be written, standard error says so.
-fn write_record(rt: &HostRuntime, steps: &[u32], out: &mut [u8]) -> io::Result<()> {
-    match visit_write::write(steps, out) {
-        Written::Bytes(count) => match rt.stdout().write_all(front(out, count)) {
-            Ok(()) => Ok(()),
-            Err(error) => say_unwritten(rt, error),
-        },
-        Written::Refused(number) => faults::say_size(rt.stderr(), number, out),
-        Written::RefusedAt { number, place: _ } => faults::say_size(rt.stderr(), number, out),
+    let (word, value) = lines::first_word(lines::without_remark(text));
+    let depth = lines::depth(spaces)?;
+    match lines::name_of(word).ok_or(Fault::Word)? {
+        Name::Group(group) => groups::take(pack, depth, group, value),
+        Name::Field(field) => fields::take(pack, depth, field, value.unwrap_or(b"")),
     }
 }
 
-// Says that the record could not be written, unless nobody reads it any more.
-fn say_unwritten(rt: &HostRuntime, error: io::Error) -> io::Result<()> {
-    if error.kind() == io::ErrorKind::BrokenPipe {
-        return Err(error);
+// Takes the text's lines, up to the first bad one, and gives how many steps they have.
+fn take_lines(text: &[u8], steps: &mut [u32]) -> Result<usize, BadLine> {
+    let mut pack = Pack {
+        list: steps,
+        steps: 0,
+        place: visit_place::start(),
+        holds: Holds::Nothing,
+    };
+    let mut number: usize = 1;
+    for line in text.split_inclusive(|byte| *byte == b'\n') {
+        let line = line.strip_suffix(b"\n").unwrap_or(line);
+        take(&mut pack, line).map_err(|fault| BadLine {
+            line: number,
+            fault,
+        })?;
+        number = number.saturating_add(1);
     }
-    rt.stderr()
-        .write_all(b"visit pack: the record could not be written\n")
+    match groups::end(&mut pack) {
+        Ok(()) => Ok(pack.steps),
+        Err(fault) => Err(BadLine {
+            line: number,
+            fault,
+        }),
+    }
 }
 
-// Writes the record of the steps, or says that it would be too long.
-fn write_steps(rt: &HostRuntime, count: usize, steps: &[u32], out: &mut [u8]) -> io::Result<()> {
-    if count > STEPS {
-        return faults::say_size(rt.stderr(), paper::WRONG_LENGTH, out);
-    }
-    let words = count * 8;
-    if words <= steps.len() {
-        return write_record(rt, &steps[..words], out);
-    }
-    Ok(())
-}
-
-// Packs a text, or says on standard error which line is wrong and why.
-fn pack_text(rt: &HostRuntime, text: &[u8], steps: &mut [u32], out: &mut [u8]) -> io::Result<()> {
+// Packs a text into a buffer, and gives the bytes of its record.
+fn pack_text(text: &[u8], steps: &mut [u32; WORDS], out: &mut [u8]) -> Result<usize, TextError> {
     if text.len() >= TEXT {
-        return rt
-            .stderr()
-            .write_all(b"visit pack: the text has more than 1,048,576 bytes\n");
+        return Err(TextError::TooLong);
     }
-    let pack = take_lines(text, steps);
-    if pack.fault > 0 {
-        return faults::say(rt.stderr(), pack.lines, pack.fault, out);
+    let count = take_lines(text, steps)?;
+    if count > STEPS {
+        return Err(TextError::Record(Refusal {
+            number: paper::WRONG_LENGTH,
+        }));
     }
-    write_steps(rt, pack.steps, steps, out)
+    Ok(visit_write::write(&steps[..count * visit::WORDS], out)?)
 }
 
-// Packs what standard input has.
+// Writes a record, or says that it could not be written, unless nobody reads it any more.
+fn write(rt: &HostRuntime, record: &[u8]) -> io::Result<()> {
+    match rt.stdout().write_all(record) {
+        Err(error) if error.kind() != io::ErrorKind::BrokenPipe => {
+            eprintln!(rt; "visit pack: the record could not be written")
+        }
+        written => written,
+    }
+}
+
+// Packs what standard input has, or says on standard error why it does not.
 fn pack_input(
     rt: &HostRuntime,
     text: &mut [u8],
-    steps: &mut [u32],
+    steps: &mut [u32; WORDS],
     out: &mut [u8],
 ) -> io::Result<()> {
-    match visit_input::read_all(&mut rt.stdin(), text) {
-        Input::Bytes(count) => pack_text(rt, front(text, count), steps, out),
-        Input::Unread => rt
-            .stderr()
-            .write_all(b"visit pack: the input could not be read\n"),
+    let Ok(count) = visit_input::read_all(&mut rt.stdin(), text) else {
+        return eprintln!(rt; "visit pack: the input could not be read");
+    };
+    match pack_text(front(text, count), steps, out) {
+        Ok(size) => write(rt, front(out, size)),
+        Err(error) => eprintln!(rt; "visit pack: {error}"),
     }
 }
 

@@ -43,6 +43,6 @@ number p =
 
 unfoldable pub after : Place → Step → Place
 after p opened = deeper p
-after p (slot t a b c) = p
+after p (slot s) = p
 after p closed = back p
 after p stray = p

@@ -1,4 +1,4 @@
--- The cases that the code follows, and that it reads what the definitions of visit read.
+-- The steps of the readers, and that they read what the definitions of visit read.
 pub mod Laid
 pub mod SlotCases
 pub mod GroupCases

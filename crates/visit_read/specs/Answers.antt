@@ -1,18 +1,9 @@
 -- What the reader answers, in the paper's terms.
-use Rattle.std.specs.Prelude.{◌<◌, [], ◌∷◌}
-use Rattle.visit.specs.Lent.{number_at}
-use Rattle.paper.specs.Answers.{Answer, given, refused}
-use Rattle.visit_read.specs.declared.Read.{Read}
-use Rattle.visit_read.specs.declared.Read.TheVariants.{Steps, Refused, RefusedAt}
+use Rattle.std.specs.Prelude.{ℕ, Result}
+use Rattle.visit.specs.declared.RecordError.{RecordError}
+use Rattle.visit.specs.Answers.{record_answer}
+use Rattle.paper.specs.Answers.{Answer}
 
--- the paper's number and values for each case of the enum
-abbrev pub read_answer : Read → Answer
-read_answer (Steps n) = given (n ∷ [])
-read_answer (Refused number) = refused number
-read_answer (RefusedAt number offset) = number_at number offset
-
--- a refusal's number is not 0
-abbrev pub Tells : Read → Type 0
-Tells (Steps n) = Unit
-Tells (Refused number) = 0 < number
-Tells (RefusedAt number offset) = 0 < number
+-- the paper's number, with the steps read or the offset of the fault
+abbrev pub read_answer : Result ℕ RecordError → Answer
+read_answer result = record_answer result

@@ -2,8 +2,8 @@
 ghost use Rattle.std.specs.Prelude.{◌≡◌, ◌≤◌, length};
 ghost use Rattle.visit_read.specs.Groups.{field_at, body_at, Passes, Ends};
 
-use crate::{Field, Filling, slots};
-use visit::{Place, Step};
+use crate::{Field, slots};
+use visit::{Fault, Place, Step};
 use visit_field::Front;
 
 // The field at an offset, in a group that ends at `end`; so many levels may still be opened. The list has k steps so far.
@@ -16,39 +16,33 @@ pub(crate) fn read_field(
     place: Place,
     k: usize,
     list: &mut [u32],
-) -> Field
+) -> Result<Field, Fault>
     requires { (at ≤ end) × ((end ≤ length bytes.now) × (k ≤ at)) }
     ensures list_after { (result, list.new) ≡ field_at levels bytes.now end place at k list.old }
     ensures passes { Passes at end k result }
 {
-    let f = visit_field::front_at(bytes, at, end, place);
-    match f {
+    match visit_field::front_at(bytes, at, end, place)? {
         Front::Group { next } => {
             if levels == 0 {
-                return Field::Refused {
+                return Err(Fault {
                     number: paper::TOO_DEEP,
-                    offset: at,
-                };
+                    place: at,
+                });
             }
             visit_step::lay(Step::Open, k, list);
-            let b = read_body(bytes, at + 3, next, levels - 1, k + 1, list);
-            match b {
-                Filling::Done { filled } => {
-                    visit_step::lay(Step::Close, filled, list);
-                    Field::Group {
-                        next,
-                        filled: filled + 1,
-                    }
-                }
-                Filling::Refused { number, offset } => Field::Refused { number, offset },
-            }
+            let filled = read_body(bytes, at + 3, next, levels - 1, k + 1, list)?;
+            visit_step::lay(Step::Close, filled, list);
+            Ok(Field::Group {
+                next,
+                filled: filled + 1,
+            })
         }
-        Front::Told { answer, next } => Field::Told { answer, next },
-        Front::Refused { number, offset } => Field::Refused { number, offset },
+        Front::Told { answer, next } => Ok(Field::Told { answer, next }),
     }
 }
 
 // A group's body from an offset to its end: a slot, or groups one after the other.
+// Each turn of the loop goes on where a field ended, so that no range counts its offsets.
 #[cycle(read_body_read_field)]
 fn read_body(
     bytes: &[u8],
@@ -57,37 +51,31 @@ fn read_body(
     levels: usize,
     k: usize,
     list: &mut [u32],
-) -> Filling
+) -> Result<usize, Fault>
     requires { (at ≤ end) × ((end ≤ length bytes.now) × (k ≤ at)) }
     ensures list_after { (result, list.new) ≡ body_at (field_at levels bytes.now end) bytes.now end at k list.old }
     ensures ends { Ends at end k result }
 {
-    let first = read_field(bytes, at, end, levels, Place::First, k, list);
-    match first {
+    match read_field(bytes, at, end, levels, Place::First, k, list)? {
         Field::Group { next, filled } => {
             let mut i = next;
             let mut n = filled;
             while i < end {
-                let r = read_field(bytes, i, end, levels, Place::Group, n, list);
-                match r {
+                match read_field(bytes, i, end, levels, Place::Group, n, list)? {
                     Field::Group { next, filled } => {
                         i = next;
                         n = filled;
                     }
-                    Field::Told { answer, next } => {
-                        return Filling::Refused {
+                    Field::Told { answer: _, next } => {
+                        return Err(Fault {
                             number: paper::TAG_OUT_OF_PLACE,
-                            offset: next,
-                        };
-                    }
-                    Field::Refused { number, offset } => {
-                        return Filling::Refused { number, offset };
+                            place: next,
+                        });
                     }
                 }
             }
-            Filling::Done { filled: n }
+            Ok(n)
         }
         Field::Told { answer, next } => slots::slot_by(bytes, end, answer, next, k, list),
-        Field::Refused { number, offset } => Filling::Refused { number, offset },
     }
 }

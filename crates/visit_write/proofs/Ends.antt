@@ -1,7 +1,7 @@
 -- Where the groups end that are still to be opened: the marks say it at every place of the walk back.
 use Prim.Native.Nat.{ℕ, zero, suc, ◌+◌, ◌-◌, ◌≤◌}
 use mathlib.Core.List.{List, [], ◌∷◌, ◌++◌}
-use mathlib.Core.Path.{◌≡◌, refl, ap}
+use mathlib.Core.Path.{◌≡◌, refl}
 use native.Mathlib.Omega.{arith}
 use lib.ListN.{length, length-append}
 use Rattle.visit.specs.declared.Step.{Step}
@@ -9,9 +9,8 @@ use Rattle.visit.specs.declared.Step.TheVariants.{Open, Slot, Close, Stray}
 use Rattle.visit.specs.Tree.{framed}
 use Rattle.visit.specs.Writer.{Frames, step_bytes, framed_onto, frames}
 use Rattle.visit_bytes.specs.Bytes.{size}
-use Rattle.visit_bytes.specs.Laid.{laid_back}
 use Rattle.visit_write.specs.declared.Marks.{Marks}
-use Rattle.visit_write.specs.Walk.{size_of, moved, step_back}
+use Rattle.visit_write.specs.Walk.{size_of, moved}
 use Rattle.visit_write.proofs.Frames.{joined, unrolled-length, slot-length}
 
 -- the length of so many groups together
@@ -80,8 +79,8 @@ moved_ends : (s : Step) (ss : List Step) (total : ℕ) (m : Marks) → length (f
 unfolding frames
 moved_ends Open ss total m l r t e =
     opened-ends (frames ss).inner (frames ss).outer total m l r (omega (arith, unrolled-length ss)) e
-moved_ends (Slot time t p h) ss total m l r q e =
-    slot-ends (step_bytes time t p h) (frames ss) m (m.at - size (Slot time t p h)) (omega (arith, slot-length time t p h)) e
+moved_ends (Slot v) ss total m l r q e =
+    slot-ends (step_bytes v) (frames ss) m (m.at - size (Slot v)) (omega (arith, slot-length v)) e
 moved_ends Close ss total m l r t e =
     record { one = omega arith; two = omega (arith, e.one); three = omega (arith, e.two); four = omega (arith, e.three) }
 moved_ends Stray ss total m l r t e =
@@ -89,7 +88,7 @@ moved_ends Stray ss total m l r t e =
 
 pub moved_at : (s : Step) (total : ℕ) (m : Marks) (at : ℕ) → (moved s total m at).at ≡ at
 moved_at Open total m at = refl
-moved_at (Slot time t p h) total m at = refl
+moved_at (Slot v) total m at = refl
 moved_at Close total m at = refl
 moved_at Stray total m at = refl
 
@@ -101,8 +100,3 @@ step-stands s ss total m l r w =
       placed = omega (arith, moved_at s total m (m.at - size s), w.placed);
       ends = moved_ends s ss total m l r w.placed w.ends;
     }
-
-pub by_parts : (s : Step) (total : ℕ) (m r : Marks) (lent after : List ℕ) (at : ℕ) → (at, after) ≡ laid_back s (m.first - m.at) m.at lent
-    → r ≡ moved s total m at → (r, after) ≡ step_back s total m lent
-unfolding step_back
-by_parts s total m r lent after at h e = rw e (ap (λ (laid : ℕ × List ℕ). (moved s total m laid.0, laid.1)) h)

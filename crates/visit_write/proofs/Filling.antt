@@ -18,7 +18,7 @@ use Rattle.visit_write.specs.declared.Marks.{Marks}
 use Rattle.visit_write.specs.Walk.{size_of, moved, step_back}
 use Rattle.visit_write.proofs.Steps.{count_of, next-step}
 use Rattle.visit_write.proofs.Sound.{Small, Sound, sound, sound-later}
-use Rattle.visit_write.proofs.Frames.{unrolled, unrolled-length, inner-most, lead-first, lead-length, all-inner, bytes-length}
+use Rattle.visit_write.proofs.Frames.{unrolled, unrolled-length, inner-most, lead-first, lead-length, bytes-length}
 use Rattle.visit_write.proofs.Ends.{Stands, at-start, moved_at, step-stands}
 
 -- ---- one step
@@ -114,16 +114,3 @@ module _ (w lent : List ℕ) (total : ℕ) (fits : checked stage.Start (from_wor
         stands = rw (next, marks) (step-stands s (drop k ss) total m well.1.0 place f.stands);
         laid = rw (next, at) (ap (λ (p : Marks × List ℕ). p.1) both);
       }
-
-  pub first-after : (out : List ℕ) (k : ℕ) (m : Marks) → Filling w lent out total k m → m.at ≤ m.first
-  first-after out k m f = omega (arith, f.stands.ends.one)
-
-  pub same-room : (out : List ℕ) (k : ℕ) (m : Marks) → Filling w lent out total k m → length out ≡ length lent
-  same-room out k m f = ap length f.laid ∙ laid-length lent m.at total (drop k (from_words w)) f.stands.placed room
-
-  pub filling-end : (out : List ℕ) (k : ℕ) (m : Marks) → Filling w lent out total k m → k ≤ 0 → out ≡ bytes_of (from_words w) ++ drop total lent
-  filling-end out k m f h =
-      let none : k ≡ 0 = omega arith in
-      let placed : m.at + size_of (from_words w) ≡ total = rw none at f.stands.placed in
-      let start : m.at ≡ 0 = omega (arith, placed, bytes-length (from_words w) fits) in
-      f.laid ∙ rw (none, start, all-inner (from_words w) fits)

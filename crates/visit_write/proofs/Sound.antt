@@ -9,44 +9,43 @@ use lib.Dec.{ltb, leb}
 use lib.ListN.{length, drop}
 use Rattle.laws.specs.Choices.{pick}
 use Rattle.laws.specs.Tests.{both}
-use Rattle.visit.specs.declared.Answer.{Answer}
-use Rattle.visit.specs.declared.Answer.TheVariants.{Value, Missing}
+use Rattle.visit.specs.Steps.{Answer}
+use Rattle.std.specs.Prelude.{Ok, Err}
 use Rattle.visit.specs.declared.Holds.TheVariants as holds
 use Rattle.visit.specs.declared.Place.{Place}
 use Rattle.visit.specs.declared.Place.TheVariants as place
 use Rattle.visit.specs.declared.Stage.{Stage}
 use Rattle.visit.specs.declared.Stage.TheVariants as stage
+use Rattle.visit.specs.declared.Slot.{Slot as SlotOf}
 use Rattle.visit.specs.declared.Step.{Step}
 use Rattle.visit.specs.declared.Step.TheVariants.{Open, Slot, Close, Stray}
-use Rattle.visit.specs.declared.Turn.{Turn}
-use Rattle.visit.specs.declared.Turn.TheVariants.{Onward, Halt}
 use Rattle.visit.specs.Tree.{most}
-use Rattle.visit.specs.Writer.{is_within, slot_fits, turn, fine, wrong, go_on, checked, framed_onto, frames}
+use Rattle.visit.specs.Writer.{Turn, is_within, slot_fits, turn, fine, wrong, go_on, checked, framed_onto, frames}
 use Rattle.visit.proofs.Faults.{CheckedFault, checked-fault}
 
 -- ---- a step's numbers
 
 abbrev pub InByte : Answer → Type 0
-InByte (Value v) = Unit
-InByte (Missing n) = n < 256
+InByte (Ok v) = Unit
+InByte (Err a) = a.number < 256
 
 abbrev pub Small : Step → Type 0
 Small Open = Unit
-Small (Slot time t p h) = InByte t × (InByte p × InByte h)
+Small (Slot v) = InByte v.temperature × (InByte v.pressure × InByte v.humidity)
 Small Close = Unit
 Small Stray = Unit
 
 in-byte : (p : Place) (a : Answer) → is_within p a ≡ true → InByte a
-in-byte p (Value v) e = tt
-in-byte p (Missing n) e = omega (arith, leb-true n 14 (both (leb 10 n) (leb n 14) e).1)
+in-byte p (Ok v) e = tt
+in-byte p (Err a) e = omega (arith, leb-true a.number 14 (both (leb 10 a.number) (leb a.number 14) e).1)
 
-fits-small : (time : ℕ) (t p h : Answer) → slot_fits time t p h ≡ true → InByte t × (InByte p × InByte h)
+fits-small : (v : SlotOf) → slot_fits v ≡ true → InByte v.temperature × (InByte v.pressure × InByte v.humidity)
 unfolding slot_fits
-fits-small time t p h e =
-    let a = (both (leb time (most place.First)) _ e).1 in
-    let b = both (is_within place.Temperature t) _ a in
-    let d = both (is_within place.Pressure p) _ b.1 in
-    (in-byte place.Temperature t b.0, (in-byte place.Pressure p d.0, in-byte place.Humidity h d.1))
+fits-small v e =
+    let a = (both (leb v.time (most place.First)) _ e).1 in
+    let b = both (is_within place.Temperature v.temperature) _ a in
+    let d = both (is_within place.Pressure v.pressure) _ b.1 in
+    (in-byte place.Temperature v.temperature b.0, (in-byte place.Pressure v.pressure d.0, in-byte place.Humidity v.humidity d.1))
 
 -- ---- one step: what it leads to, and that a refusal's number is not 0
 
@@ -69,7 +68,7 @@ depth-most stage.Done = omega arith
 -- those open before a step, by those after it
 abbrev before : Step → ℕ → ℕ
 before Open n = n - 1
-before (Slot time t p h) n = n
+before (Slot v) n = n
 before Close n = suc n
 before Stray n = n
 
@@ -79,8 +78,8 @@ record Taken (s : Step) (st next : Stage) : Type 0 where
   small : Small s
 
 abbrev TakenBy : Step → Stage → Turn → Type 0
-TakenBy s st (Onward next) = Taken s st next
-TakenBy s st (Halt number) = Unit
+TakenBy s st (Ok next) = Taken s st next
+TakenBy s st (Err r) = Unit
 
 up-taken : (l : ℕ) (held : _) → l ≤ 3 → TakenBy Close (stage.Open l held) (turn (stage.Open l holds.Slot) Close)
 unfolding turn
@@ -92,24 +91,24 @@ up-taken l held r =
 taken : (st : Stage) (s : Step) → InRange st → TakenBy s st (turn st s)
 unfolding turn
 taken stage.Start Open r = record { range = omega arith; levels = refl; small = tt }
-taken stage.Start (Slot time t p h) r = tt
+taken stage.Start (Slot v) r = tt
 taken stage.Start Close r = tt
 taken stage.Start Stray r = tt
 taken (stage.Open zero holds.Nothing) Open r = tt
 taken (stage.Open (suc l) holds.Nothing) Open r = record { range = omega arith; levels = omega arith; small = tt }
-taken (stage.Open l holds.Nothing) (Slot time t p h) r =
-    pick (TakenBy (Slot time t p h) (stage.Open l holds.Nothing)) (slot_fits time t p h)
-    (λ e. record { range = r; levels = refl; small = fits-small time t p h e })
+taken (stage.Open l holds.Nothing) (Slot v) r =
+    pick (TakenBy (Slot v) (stage.Open l holds.Nothing)) (slot_fits v)
+    (λ e. record { range = r; levels = refl; small = fits-small v e })
     (λ e. tt)
 taken (stage.Open l holds.Nothing) Close r = tt
 taken (stage.Open l holds.Nothing) Stray r = tt
 taken (stage.Open zero holds.Groups) Open r = tt
 taken (stage.Open (suc l) holds.Groups) Open r = record { range = omega arith; levels = omega arith; small = tt }
-taken (stage.Open l holds.Groups) (Slot time t p h) r = tt
+taken (stage.Open l holds.Groups) (Slot v) r = tt
 taken (stage.Open l holds.Groups) Close r = up-taken l holds.Groups r
 taken (stage.Open l holds.Groups) Stray r = tt
 taken (stage.Open l holds.Slot) Open r = tt
-taken (stage.Open l holds.Slot) (Slot time t p h) r = tt
+taken (stage.Open l holds.Slot) (Slot v) r = tt
 taken (stage.Open l holds.Slot) Close r = up-taken l holds.Slot r
 taken (stage.Open l holds.Slot) Stray r = tt
 taken stage.Done s r = tt
@@ -123,7 +122,7 @@ framed-outer body (b ∷ bs) = omega arith
 outer-before : (s : Step) (ss : List Step) → length (frames (s ∷ ss)).outer ≡ before s (length (frames ss).outer)
 unfolding frames
 outer-before Open ss = framed-outer (frames ss).inner (frames ss).outer
-outer-before (Slot time t p h) ss = refl
+outer-before (Slot v) ss = refl
 outer-before Close ss = refl
 outer-before Stray ss = refl
 
@@ -140,11 +139,11 @@ not-fine number place e = let z : ◌≡◌ {A = ℕ} 0 1 = cc in omega arith
 onward : (st : Stage) (s : Step) (ss : List Step) (i : ℕ) (t : Turn) → TakenBy s st t
     → ((next : Stage) → InRange next → checked next ss (i + 1) ≡ fine → SoundFrom next ss)
     → go_on t i (λ next. checked next ss (i + 1)) ≡ fine → SoundFrom st (s ∷ ss)
-onward st s ss i (Onward next) h rest e =
+onward st s ss i (Ok next) h rest e =
     let after = rest next h.range e in
     let four : length (frames ss).outer ≤ 4 = omega (arith, after.0, depth-most next) in
     (outer-before s ss ∙ ap (before s) after.0 ∙ h.levels, (h.small, (four, after.1)))
-onward st s ss i (Halt number) h rest e = absurd (not-fine number i e)
+onward st s ss i (Err r) h rest e = absurd (not-fine r.number i e)
 
 sound-from : (ss : List Step) (st : Stage) (i : ℕ) → InRange st → checked st ss i ≡ fine → SoundFrom st ss
 unfolding checked frames

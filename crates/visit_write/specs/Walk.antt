@@ -14,7 +14,7 @@ size_of (step ∷ steps) = size step + size_of steps
 -- an opened group's end is no longer needed, and a closed one's is the place where the bytes after it begin
 abbrev pub moved : Step → ℕ → Marks → ℕ → Marks
 moved Open total m at = record { at = at; first = m.second; second = m.third; third = m.fourth; fourth = total }
-moved (Slot time t p h) total m at = record { at = at; first = m.first; second = m.second; third = m.third; fourth = m.fourth }
+moved (Slot s) total m at = record { at = at; first = m.first; second = m.second; third = m.third; fourth = m.fourth }
 moved Close total m at = record { at = at; first = at; second = m.first; third = m.second; fourth = m.third }
 moved Stray total m at = record { at = at; first = m.first; second = m.second; third = m.third; fourth = m.fourth }
 

@@ -10,6 +10,7 @@ use crate::Marks;
 use visit::Step;
 
 // The marks once a step's bytes begin at the given place.
+// Each mark has a name of its own, since none is ever asked for by a number.
 fn moved(step: Step, total: usize, m: Marks, at: usize) -> Marks
     ensures { result ≡ walk.moved step total m at }
 {
@@ -21,18 +22,6 @@ fn moved(step: Step, total: usize, m: Marks, at: usize) -> Marks
             third: m.fourth,
             fourth: total,
         },
-        Step::Slot {
-            time: _,
-            temperature: _,
-            pressure: _,
-            humidity: _,
-        } => Marks {
-            at,
-            first: m.first,
-            second: m.second,
-            third: m.third,
-            fourth: m.fourth,
-        },
         Step::Close => Marks {
             at,
             first: at,
@@ -40,17 +29,12 @@ fn moved(step: Step, total: usize, m: Marks, at: usize) -> Marks
             third: m.second,
             fourth: m.third,
         },
-        Step::Stray => Marks {
-            at,
-            first: m.first,
-            second: m.second,
-            third: m.third,
-            fourth: m.fourth,
-        },
+        Step::Slot(_) | Step::Stray => Marks { at, ..m },
     }
 }
 
 // Lays one step's bytes down before those of the steps after it.
+#[tactic(auto, unfolding(crate::specs::Walk::step_back))]
 fn step_back(step: Step, total: usize, m: Marks, out: &mut [u8]) -> Marks
     requires { m.at ≤ m.first }
     ensures { (result, out.new) ≡ walk.step_back step total m out.old }
@@ -64,7 +48,6 @@ pub(crate) fn fill(steps: &[u32], total: usize, out: &mut [u8])
     requires { (checked stage.Start (from_words steps.now) 0 ≡ fine) × ((total ≡ length (bytes_of (from_words steps.now))) × ((total ≤ tag.most_bytes) × (total ≤ length out.old))) }
     ensures { out.new ≡ bytes_of (from_words steps.now) ++ drop total out.old }
 {
-    let mut k = steps.len() / visit::WORDS;
     let mut m = Marks {
         at: total,
         first: total,
@@ -72,8 +55,7 @@ pub(crate) fn fill(steps: &[u32], total: usize, out: &mut [u8])
         third: total,
         fourth: total,
     };
-    while 0 < k {
-        k -= 1;
+    for k in (0..steps.len() / visit::WORDS).rev() {
         m = step_back(visit_step::step_at(steps, k), total, m, out);
     }
 }

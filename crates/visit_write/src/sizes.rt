@@ -7,15 +7,12 @@ ghost use Rattle.visit_write.specs.Walk.{size_of};
 pub(crate) fn total(steps: &[u32]) -> usize
     ensures { result ≡ min (size_of (from_words steps.now)) 65536 }
 {
-    let count = steps.len() / visit::WORDS;
     let mut bytes = 0;
-    let mut k = 0;
-    while k < count {
+    for k in 0..steps.len() / visit::WORDS {
         bytes += visit_bytes::size(visit_step::step_at(steps, k));
         if visit::MOST_BYTES < bytes {
             return visit::MOST_BYTES + 1;
         }
-        k += 1;
     }
     bytes
 }

@@ -1,9 +1,9 @@
 -- Polling: status bytes in order, until one is ready or the bytes or the allowance run out.
-use Rattle.std.specs.Prelude.{ℕ, suc, ◌+◌, ◌%◌, ◌/◌, min, eqb, ltb, length, take, Bool, cond, ◌&&◌, List, [], ◌∷◌}
+use Rattle.std.specs.Prelude.{ℕ, suc, ◌+◌, ◌%◌, ◌/◌, min, eqb, ltb, length, take, Bool, cond, ◌&&◌, List, [], ◌∷◌, Result, Ok, Err}
 use Rattle.paper.specs.Numbers as no
 use Rattle.paper.specs.Answers.{Answer, given}
-use Rattle.waiting.specs.declared.Polled.{Polled}
-use Rattle.waiting.specs.declared.Polled.TheVariants.{Ready, Never}
+use Rattle.waiting.specs.declared.Ready.{Ready}
+use Rattle.waiting.specs.declared.NeverReady.{NeverReady}
 
 -- bits 3 and 0 both clear, whatever the others say
 abbrev pub is_ready : ℕ → Bool
@@ -32,7 +32,7 @@ polled status allowance =
     (given (place status allowance ∷ (place status allowance + 1) ∷ []))
     (never (limit status allowance))
 
--- the paper's number and values for each case of the enum
-abbrev pub poll_answer : Polled → Answer
-poll_answer (Ready at polls) = given (at ∷ polls ∷ [])
-poll_answer (Never polls) = never polls
+-- the paper's number and values for each case
+abbrev pub poll_answer : Result Ready NeverReady → Answer
+poll_answer (Ok ready) = given (ready.place ∷ ready.polls ∷ [])
+poll_answer (Err unready) = never unready.polls

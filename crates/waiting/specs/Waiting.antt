@@ -1,13 +1,12 @@
 -- Waiting: samples by code, and the microseconds that a conversion takes at most and typically.
-use Rattle.std.specs.Prelude.{ℕ, ◌+◌, ◌*◌, eqb, cond, [], ◌∷◌}
+use Rattle.std.specs.Prelude.{ℕ, ◌+◌, ◌*◌, eqb, cond, [], ◌∷◌, Result, Ok, Err}
 use Rattle.paper.specs.Numbers as no
 use Rattle.paper.specs.Registers as reg
+use Rattle.paper.specs.declared.Refusal.{Refusal}
 use Rattle.paper.specs.Answers.{Answer, given, refused}
 use Rattle.waiting.specs.declared.Estimate.{Estimate}
 use Rattle.waiting.specs.declared.Estimate.TheVariants.{Maximum, Typical}
 use Rattle.waiting.specs.declared.Figures.{Figures}
-use Rattle.waiting.specs.declared.Wait.{Wait}
-use Rattle.waiting.specs.declared.Wait.TheVariants.{Microseconds, Refused}
 
 -- codes 0 to 4 mean 0, 1, 2, 4, 8 samples; 5 to 7 mean 16
 unfoldable pub samples : ℕ → ℕ
@@ -47,7 +46,7 @@ waited f temperature pressure humidity =
     cond (reg.are_codes temperature pressure humidity) (given (microseconds f temperature pressure humidity ∷ []))
     (refused no.out_of_range)
 
--- the paper's number and values for each case of the enum
-abbrev pub wait_answer : Wait → Answer
-wait_answer (Microseconds n) = given (n ∷ [])
-wait_answer (Refused number) = refused number
+-- the paper's number and values for each case
+abbrev pub wait_answer : Result ℕ Refusal → Answer
+wait_answer (Ok n) = given (n ∷ [])
+wait_answer (Err why) = refused why.number

@@ -47,6 +47,7 @@ fn channel_part(sample: u32, extra: u32, code: u8) -> u32
 }
 
 // The sum by the given figures, none of them above 10000, at codes of 0 to 7.
+// The codes come one by one, as `estimate_wait` and `paper::are_codes` take them: a type for a code would be built three times for one sum.
 pub(crate) fn microseconds(figures: Figures, temperature: u8, pressure: u8, humidity: u8) -> u32
     requires { (figures.base ≤ 10000) × (figures.sample ≤ 10000) × (figures.extra ≤ 10000) × (temperature ≤ reg.last_code) × (pressure ≤ reg.last_code) × (humidity ≤ reg.last_code) }
     ensures { result ≡ microsecondsOf figures temperature pressure humidity }

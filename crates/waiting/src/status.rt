@@ -1,5 +1,5 @@
-// Reading a status byte, and how many are read.
-ghost use Rattle.std.specs.Prelude.{◌≡◌, min};
+// Reading a status byte.
+ghost use Rattle.std.specs.Prelude.{◌≡◌};
 ghost use Rattle.waiting.specs.Polling.{is_ready};
 
 // Whether bits 3 and 0 are both clear.
@@ -7,11 +7,4 @@ pub(crate) fn is_ready(status: u8) -> bool
     ensures { result ≡ is_ready status }
 {
     (status / 8 % 2 == 0) & (status % 2 == 0)
-}
-
-// The smaller of two limits.
-pub(crate) fn smaller(one: usize, other: usize) -> usize
-    ensures { result ≡ min one other }
-{
-    if one < other { one } else { other }
 }

@@ -2,10 +2,10 @@
 use Rattle.bench_calibration.specs.Words.{calibration}
 use Rattle.bench_calibration.proofs.write_calibration.Goals as goal
 
-pub returns-in-Refused : goal.returns-in-Refused
+pub returns-in-Err : goal.returns-in-Err
 unfolding calibration
-returns-in-Refused c = rw (c.in-Refused.is, c.write_decimal.ensures)
+returns-in-Err c = rw (c.in-Err.is, c.write_decimal.ensures)
 
-pub returns-in-Known : goal.returns-in-Known
+pub returns-in-Ok : goal.returns-in-Ok
 unfolding calibration
-returns-in-Known c = rw (c.in-Known.is, c.write_words.ensures)
+returns-in-Ok c = rw (c.in-Ok.is, c.write_words.ensures)

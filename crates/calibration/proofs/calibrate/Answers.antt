@@ -3,17 +3,18 @@ use mathlib.Core.Path.{ap}
 use Rattle.laws.specs.Cases.{cases}
 use Rattle.calibration.specs.Calibration.{calibrated, calibration_answer}
 use Rattle.calibration.proofs.calibrate.Goals as goal
+use Rattle.calibration.proofs.calibrate.Goals.{then-one-ne-BLOCK_ONE-via-then-one-ne-BLOCK_ONE, then-one-ne-BLOCK_ONE-via-else-one-ne-BLOCK_ONE+then-two-ne-BLOCK_TWO}
 
 pub returns-then-one-ne-BLOCK_ONE : goal.returns-then-one-ne-BLOCK_ONE
 unfolding calibrated
-returns-then-one-ne-BLOCK_ONE c = ap calibration_answer (search cases)
-
-pub returns-then-two-ne-BLOCK_TWO : goal.returns-then-two-ne-BLOCK_TWO
-unfolding calibrated
-returns-then-two-ne-BLOCK_TWO c = ap calibration_answer (search cases)
+returns-then-one-ne-BLOCK_ONE c =
+    elim c.then-one-ne-BLOCK_ONE.branch [
+      | then-one-ne-BLOCK_ONE-via-then-one-ne-BLOCK_ONE w ↦ ap calibration_answer (search cases)
+      | then-one-ne-BLOCK_ONE-via-else-one-ne-BLOCK_ONE+then-two-ne-BLOCK_TWO w ↦ ap calibration_answer (search cases)
+    ]
 
 pub returns : goal.returns
 unfolding calibrated
 returns c =
     ap calibration_answer
-    (rw (c.humidity_words-humidity.ensures, c.pressure_words-pressure.ensures, c.temperature_words-temperature.ensures) (search cases))
+    (rw (c.humidity_words.ensures, c.pressure_words.ensures, c.temperature_words.ensures) (search cases))

@@ -5,7 +5,8 @@ use Rattle.compensation.specs.Compensation.{compensated_words, reading_answer}
 use Rattle.compensation.proofs.OneAnswer.{one-reading}
 use Rattle.compensation.proofs.compensate_with.Goals as goal
 
-pub returns-then-bytes-eq-DATA : goal.returns-then-bytes-eq-DATA
+pub returns : goal.returns
 unfolding compensated_words
-returns-then-bytes-eq-DATA c =
-    ap reading_answer (rw (one-reading _ _ c.compensate_words.ensures, c.in-Known.is) (search cases))
+returns c =
+    let eight = c.in-Ok.ensures.1 in
+    ap reading_answer (rw (one-reading _ _ c.compensate_words.ensures, c.in_ok-words.was, eight.same) (search (cases, eight.long)))

@@ -4,10 +4,10 @@ use Rattle.laws.specs.Cases.{cases}
 use Rattle.compensation.specs.Compensation.{compensated_words, reading_answer}
 use Rattle.compensation.proofs.compensate_words.Goals as goal
 
-pub returns-then-are_codes : goal.returns-then-are_codes
+pub returns-then-not-are_codes : goal.returns-then-not-are_codes
 unfolding compensated_words
-returns-then-are_codes c = ap reading_answer (rw (c.read.ensures, c.count.ensures) (search cases))
+returns-then-not-are_codes c = ap reading_answer (search cases)
 
-pub returns-else-are_codes : goal.returns-else-are_codes
+pub returns : goal.returns
 unfolding compensated_words
-returns-else-are_codes c = ap reading_answer (search cases)
+returns c = ap reading_answer (rw (c.read.ensures, c.count.ensures) (search cases))

@@ -5,6 +5,6 @@ use Rattle.formula.specs.Answers.{channel_answer}
 use Rattle.formula.proofs.Taken.{taken-channel}
 use Rattle.formula_humidity.proofs.humidity.Goals as goal
 
-pub returns-then-plain : goal.returns-then-plain
-returns-then-plain c =
-    ap channel_answer (rw (to_z-of_z c.ranges.fine) at (sym (taken-channel _ _ c.humidity_plainly-plain.result c.humidity_plainly-plain.ensures c.if-plain.true)))
+pub returns-in-Some : goal.returns-in-Some
+returns-in-Some c =
+    ap channel_answer (rw (to_z-of_z c.ranges.fine) at (sym (taken-channel _ _ _ c.in-Some.plain c.humidity_plainly.ensures c.in-Some.is)))

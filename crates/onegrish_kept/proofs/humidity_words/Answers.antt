@@ -1,18 +1,23 @@
--- `onegrish_kept::humidity_words` meets its contract: each word is the one at its place, and those of 8 bits have them. Assumes nothing.
-use mir.Syntax.{w16}
+-- Each word is the one at its place, and those of 8 bits have them.
+use mathlib.Core.Path.{◌≡◌}
+use native.Mathlib.Omega.{arith}
+use lib.IntN.{pos}
+use mir.Syntax.{w8, w16}
 use mir.Val.{SFits}
 use mir.Facts.{to_z-of_z}
-use Rattle.onegrish_kept.proofs.Signs.{bytes-of}
-use Rattle.std.proofs.Common.{rules}
+use Rattle.std.proofs.Common.{rules, slice_index_or}
+use Rattle.std.proofs.lemmas.Grind.{common_steps}
+use Rattle.onegrish_kept.proofs.Bytes.{byte-is, signed-byte-is}
 use Rattle.onegrish_kept.proofs.humidity_words.Goals as goal
 
 pub returns : goal.returns
 returns c =
-    let h1 : SFits w16 c.word_at.result = search rules in
-    let h2 : SFits w16 c.word_at-2.result = search rules in
-    let h3 : SFits w16 c.word_at-3.result = search rules in
-    let h4 : SFits w16 c.word_at-4.result = search rules in
-    let h5 : SFits w16 c.word_at-5.result = search rules in
-    let h6 : SFits w16 c.word_at-6.result = search rules in
-    let b = bytes-of c.args.words.now c.requires.1 in
-    cc (to_z-of_z h1, to_z-of_z h2, to_z-of_z h3, to_z-of_z h4, to_z-of_z h5, to_z-of_z h6, to_z-of_z b.h6)
+    let h2 : SFits w16 (slice_index_or c.args.words.now 13 (pos 0)) = search rules in
+    let h4 : SFits w16 (slice_index_or c.args.words.now 15 (pos 0)) = search rules in
+    let h5 : SFits w16 (slice_index_or c.args.words.now 16 (pos 0)) = search rules in
+    let h6 : SFits w8 c.in_ok-ok-3.field-0 = search rules in
+    let h1-is : slice_index_or c.args.words.now 12 (pos 0) ≡ pos c.in_ok-ok.field-0 = grind (arith, common_steps) in
+    let h3-is : slice_index_or c.args.words.now 14 (pos 0) ≡ pos c.in_ok-ok-2.field-0 = grind (arith, common_steps) in
+    let h6-is : slice_index_or c.args.words.now 17 (pos 0) ≡ c.in_ok-ok-3.field-0 = search rules in
+    rw (to_z-of_z h2, to_z-of_z h4, to_z-of_z h5, to_z-of_z h6)
+    (rw (h1-is, h3-is, h6-is, byte-is c.in_ok-ok.field-0 (omega arith), byte-is c.in_ok-ok-2.field-0 (omega arith), signed-byte-is c.in_ok-ok-3.field-0 h6))

@@ -1,13 +1,12 @@
 -- The counts are read where the codes are enabled.
-use mathlib.Core.Path.{sym, ◌∙◌}
+use Rattle.laws.specs.Cases.{cases}
 use Rattle.plain_reading.specs.Plain.{read_plainly}
 use Rattle.plain_reading.proofs.read.Goals as goal
 
-pub returns-then-are_enabled : goal.returns-then-are_enabled
+pub returns-then-not-are_enabled : goal.returns-then-not-are_enabled
 unfolding read_plainly
-returns-then-are_enabled c =
-    rw (sym c.are_enabled.ensures ∙ c.if-are_enabled.true, sym c.count.ensures) c.read_counts.ensures
+returns-then-not-are_enabled c = search cases
 
 pub returns : goal.returns
 unfolding read_plainly
-returns c = rw (sym c.are_enabled.ensures ∙ c.if-are_enabled.false)
+returns c = rw (c.read_counts.ensures, c.count.ensures) (search cases)

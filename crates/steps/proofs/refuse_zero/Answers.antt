@@ -7,17 +7,17 @@ use Rattle.steps.specs.Step.{on_value, nonzero}
 use Rattle.steps.proofs.Laws.{from_bits, nonzero-is}
 use Rattle.steps.proofs.refuse_zero.Goals as goal
 
-pub returns-in_default : goal.returns-in_default
+pub returns-in_err-a : goal.returns-in_err-a
 unfolding nonzero on_value
-returns-in_default c = rw c.in_default.is
+returns-in_err-a c = search rules
 
-pub returns-then-x-eq0 : goal.returns-then-x-eq0
+pub returns-then-branch-eq0 : goal.returns-then-branch-eq0
 unfolding nonzero on_value
-returns-then-x-eq0 c =
-    let h : SFits w64 c.in-Value.x = search rules in
-    rw (c.in-Value.is, from_bits h c.if-x-eq0.true)
+returns-then-branch-eq0 c =
+    let h : SFits w64 c.in_ok-a.field-0 = search rules in
+    rw (c.in_ok-a.was, from_bits h c.if-branch-eq0.true)
 
 pub returns : goal.returns
 unfolding nonzero on_value
 returns c =
-    rw (c.in-Value.is, nonzero-is c.in-Value.x (λ e. c.if-x-eq0.false (ap (of_z w64) e)))
+    rw (c.in_ok-a.was, nonzero-is c.in_ok-a.field-0 (λ e. c.if-branch-eq0.false (ap (of_z w64) e)))

@@ -1,15 +1,13 @@
--- Each turn asks one register more.
-use mathlib.Core.Path.{sym, ◌∙◌}
-use Rattle.bus.proofs.FlatPairs.{asking-more, asking-fails, asking-done}
+-- Each register is asked at its place, and one that fails is among them.
+use Rattle.std.proofs.lemmas.Grind.{common_steps}
+use native.Mathlib.Omega.{arith}
+use Rattle.bus.proofs.Registers.{every-decides}
 use Rattle.bus.proofs.pairs.every.Goals as goal
 
-pub returns-then-not-passes : goal.returns-then-not-passes
-returns-then-not-passes c =
-    asking-fails _ _ _ c.loop-i.invariant c.loop-i-test.true (sym c.passes.ensures ∙ c.if-not-passes.true)
-
-pub loop-i-preserved : goal.loop-i-preserved
-loop-i-preserved c =
-    asking-more _ _ _ c.loop-i.invariant c.loop-i-test.true (sym c.passes.ensures ∙ c.if-not-passes.false)
-
 pub returns : goal.returns
-returns c = asking-done _ _ _ c.loop-i.invariant c.loop-i-test.false
+returns g c asked h =
+    every-decides asked c.args.pairs.now c.all.result (λ e k b. grind (arith, common_steps))
+    (λ e.
+    let (p, from, answered) = c.all.ensures.runs in
+    let (k, below, fails) = (rw e at answered) (λ a r f m. grind (arith, common_steps)) in
+    (k, grind (arith, common_steps, fails), grind (arith, common_steps, fails)))

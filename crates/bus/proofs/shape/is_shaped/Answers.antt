@@ -1,6 +1,8 @@
 -- The code asks in the order of the definition.
 use mathlib.Core.Path.{sym, ◌∙◌}
 use borrow.Author.Tests.{le-leb, lt-leb, eq-eqb, ne_eqb}
+use Rattle.std.proofs.Common.{rules}
+use Rattle.bus.specs.RegisterByte.{is_carried}
 use Rattle.bus.specs.Writing.{is_shaped}
 use Rattle.bus.proofs.shape.is_shaped.Goals as goal
 
@@ -24,4 +26,4 @@ unfolding is_shaped
 returns c =
     let some = le-leb 1 _ c.if-bytes-lt1.false in
     rw (some, sym c.is_led.ensures ∙ c.if-not-is_led.false, ← c.body-pairs.ensures, eq-eqb _ 0 c.if-pairs-ne0.false)
-    c.every.ensures
+    (c.every.ensures (is_carried c.args.bus) (λ byte answer h p. search rules))

@@ -3,5 +3,5 @@ use Rattle.laws.specs.Cases.{cases}
 use Rattle.formula.proofs.OneAnswer.{one-temperature}
 use Rattle.compensation.proofs.channels.temperature.Goals as goal
 
-pub returns-else-t-eq0 : goal.returns-else-t-eq0
-returns-else-t-eq0 c = rw (one-temperature _ _ c.temperature.ensures) (search cases)
+pub returns : goal.returns
+returns c = rw (one-temperature _ _ c.temperature.ensures) (search cases)

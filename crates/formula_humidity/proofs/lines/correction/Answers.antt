@@ -3,6 +3,7 @@ use mir.Facts.{to_z-of_z}
 use Rattle.steps.specs.Step.{subtracted, multiplied, shifted_right}
 use Rattle.steps.specs.Work.{run}
 use Rattle.formula_humidity.specs.Humidity.{correction_line}
+use Rattle.formula.proofs.Laws.{number-is}
 use Rattle.formula_humidity.proofs.lines.correction.Goals as goal
 
 pub returns : goal.returns
@@ -15,6 +16,6 @@ returns c =
       c.shift_right-square.ensures,
       c.multiply.ensures,
       c.shift_right-coarse.ensures,
-      c.unsigned-h1.ensures,
+      number-is c.number-h1.ensures,
       to_z-of_z c.ranges.v,
     )

@@ -6,22 +6,20 @@ use Rattle.std.proofs.Common.{rules}
 use Rattle.steps.specs.Step.{added, multiplied, shifted_right}
 use Rattle.steps.specs.Work.{run}
 use Rattle.formula_humidity.specs.Humidity.{gain_factor}
+use Rattle.formula.proofs.Laws.{number-is}
 use Rattle.formula_humidity.proofs.lines.gain.Goals as goal
-use Rattle.formula_humidity.proofs.lines.gain.Goals.{Start}
-
-h2-fits : (c : Start) → SFits w16 c.args.words.h2
-h2-fits c = search rules
 
 pub returns : goal.returns
 unfolding run gain_factor added multiplied shifted_right
 returns c =
+    let h2 : SFits w16 c.args.words.h2 = search rules in
     rw (
       c.shift_right.ensures,
       c.add.ensures,
       c.multiply.ensures,
       c.add-sum.ensures,
       c.bend.ensures,
-      c.signed16-h2.ensures,
-      to_z-of_z (h2-fits c.before.before.before.before.before.before.before),
+      number-is c.number-h2.ensures,
+      to_z-of_z h2,
       to_z-of_z c.ranges.v,
     )

@@ -6,18 +6,14 @@ use Rattle.std.proofs.Common.{rules}
 use Rattle.steps.specs.Step.{added, subtracted, multiplied, shifted_left, shifted_right}
 use Rattle.steps.specs.Work.{run}
 use Rattle.formula_humidity.specs.Humidity.{level_factor}
+use Rattle.formula.proofs.Laws.{number-is}
 use Rattle.formula_humidity.proofs.lines.level.Goals as goal
-use Rattle.formula_humidity.proofs.lines.level.Goals.{Start}
-
-h4-fits : (c : Start) → SFits w16 c.args.words.h4
-h4-fits c = search rules
-
-h5-fits : (c : Start) → SFits w16 c.args.words.h5
-h5-fits c = search rules
 
 pub returns : goal.returns
 unfolding run level_factor added subtracted multiplied shifted_left shifted_right
 returns c =
+    let h4 : SFits w16 c.args.words.h4 = search rules in
+    let h5 : SFits w16 c.args.words.h5 = search rules in
     rw (
       c.shift_right.ensures,
       c.add.ensures,
@@ -26,10 +22,10 @@ returns c =
       c.subtract-above.ensures,
       c.shift_left-2.ensures,
       c.shift_left.ensures,
-      c.signed16-h5.ensures,
-      c.signed16-h4.ensures,
-      c.unsigned-adc.ensures,
-      to_z-of_z (h4-fits c.before.before.before.before.before.before.before.before.before.before.before.before),
-      to_z-of_z (h5-fits c.before.before.before.before.before.before.before.before.before.before.before.before),
+      number-is c.number-h5.ensures,
+      number-is c.number-h4.ensures,
+      number-is c.number-adc.ensures,
+      to_z-of_z h4,
+      to_z-of_z h5,
       to_z-of_z c.ranges.v,
     )

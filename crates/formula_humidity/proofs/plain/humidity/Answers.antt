@@ -2,12 +2,12 @@
 -- ---- each line's number, as the next goes on from it
 -- the guard's test is the definition's
 use Prim.Native.Nat.{◌≤◌}
-use mathlib.Core.Path.{◌≡◌, refl, sym, ap, ◌∙◌}
-use mathlib.Core.Bool.{true}
+use mathlib.Core.Path.{◌≡◌, refl, sym, ◌∙◌}
 use lib.IntN.{pos, nat_abs, ◌-ℤ◌, ◌*ℤ◌}
 use mir.Syntax.{w32}
 use mir.Val.{to_z, of_z}
 use mir.Facts.{to_z-of_z}
+use Rattle.std.specs.Prelude.{Ok}
 use Rattle.steps.specs.declared.Signed.TheVariants.{Bits32}
 use Rattle.steps.specs.Step.{on_value}
 use Rattle.steps.specs.Work.{run}
@@ -85,19 +85,13 @@ multiplies-is c =
     let h = gain-is c.before in
     rw (rw (fine_back c.before.before.before) at l.is, rw (fine_back c.before.before.before) at h.is, c.is_small.ensures, back (times (wider l) (wider h) refl), back l, back h)
 
-last-is :
-    (c : After-last) →
-    c.last.result
-    ≡ humidity_of
-    c.args.words
-    c.args.fine
-    c.args.count
+last-is : (c : After-last) → humidity_of c.args.words c.args.fine c.args.count ≡ Ok c.last.result
 unfolding run on_value humidity_formula humidity_of
 last-is c = let v = lines c.before in rw v.is (rw (back v) at c.last.ensures)
 
 pub returns-then-is_small : goal.returns-then-is_small
-returns-then-is_small c =
-    rw (c.take.ensures, multiplies-is c.before.before.before.before, c.if-is_small.true) (ap (channel_plainly true) (last-is c.before))
+unfolding channel_plainly
+returns-then-is_small c = rw (multiplies-is c.before.before.before, c.if-is_small.true, last-is c)
 
 pub returns : goal.returns
 unfolding channel_plainly

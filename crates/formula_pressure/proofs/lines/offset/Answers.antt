@@ -8,22 +8,15 @@ use Rattle.steps.specs.declared.Signed.TheVariants.{Bits64}
 use Rattle.steps.specs.Step.{on_value, on_values, added, multiplied, shifted_left}
 use Rattle.steps.specs.Work.{run}
 use Rattle.formula_pressure.specs.Pressure.{offset_lines}
-use Rattle.formula.proofs.Laws.{in_place}
+use Rattle.formula.proofs.Laws.{number-is, in_place}
 use Rattle.formula_pressure.proofs.lines.offset.Goals as goal
-use Rattle.formula_pressure.proofs.lines.offset.Goals.{Start}
-
-p4-fits : (c : Start) → SFits w16 c.args.words.p4
-p4-fits c = search rules
-
-p5-fits : (c : Start) → SFits w16 c.args.words.p5
-p5-fits c = search rules
-
-p6-fits : (c : Start) → SFits w16 c.args.words.p6
-p6-fits c = search rules
 
 pub returns : goal.returns
 unfolding run offset_lines on_value on_values added multiplied shifted_left
 returns c =
+    let p4 : SFits w16 c.args.words.p4 = search rules in
+    let p5 : SFits w16 c.args.words.p5 = search rules in
+    let p6 : SFits w16 c.args.words.p6 = search rules in
     rw (c.add-2.ensures, c.add.ensures)
     (in_place
     (λ a. added Bits64 (added Bits64 a c.shift_left-line.result) c.shift_left.result)
@@ -35,11 +28,11 @@ returns c =
       c.multiply-2.ensures,
       c.multiply-square.ensures,
       c.multiply.ensures,
-      c.signed16-p6.ensures,
-      c.signed16-p5.ensures,
-      c.signed16-p4.ensures,
+      number-is c.number-p6.ensures,
+      number-is c.number-p5.ensures,
+      number-is c.number-p4.ensures,
       to_z-of_z c.ranges.difference,
-      to_z-of_z (p4-fits c.before.before.before.before.before.before.before.before.before.before.before.before.before),
-      to_z-of_z (p5-fits c.before.before.before.before.before.before.before.before.before.before.before.before.before),
-      to_z-of_z (p6-fits c.before.before.before.before.before.before.before.before.before.before.before.before.before),
+      to_z-of_z p4,
+      to_z-of_z p5,
+      to_z-of_z p6,
     ))

@@ -6,19 +6,17 @@ use Rattle.std.proofs.Common.{rules}
 use Rattle.steps.specs.Step.{multiplied, shifted_right}
 use Rattle.steps.specs.Work.{run}
 use Rattle.formula_pressure.specs.Pressure.{slope_line}
+use Rattle.formula.proofs.Laws.{number-is}
 use Rattle.formula_pressure.proofs.lines.slope.Goals as goal
-use Rattle.formula_pressure.proofs.lines.slope.Goals.{Start}
-
-p8-fits : (c : Start) → SFits w16 c.args.words.p8
-p8-fits c = search rules
 
 pub returns : goal.returns
 unfolding run slope_line multiplied shifted_right
 returns c =
+    let p8 : SFits w16 c.args.words.p8 = search rules in
     rw (
       c.shift_right.ensures,
       c.multiply.ensures,
-      c.signed16.ensures,
-      to_z-of_z (p8-fits c.before.before.before.before),
+      number-is c.number.ensures,
+      to_z-of_z p8,
       to_z-of_z c.ranges.p,
     )

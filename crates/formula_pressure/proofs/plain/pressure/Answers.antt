@@ -2,7 +2,7 @@
 -- the quotient's line goes on from its dividend
 -- ---- each line's number, as the next goes on from it
 use Prim.Native.Nat.{ℕ, ◌≤◌}
-use mathlib.Core.Path.{◌≡◌, refl, sym, ap, ◌∙◌}
+use mathlib.Core.Path.{◌≡◌, refl, sym, ◌∙◌}
 use mathlib.Core.Bool.{true}
 use native.Mathlib.Omega.{arith}
 use lib.IntN.{ℤ, pos, nat_abs, ◌-ℤ◌}
@@ -11,13 +11,14 @@ use mir.Val.{SFits, to_z, of_z}
 use mir.Facts.{to_z-of_z}
 use Rattle.std.proofs.Common.{rules}
 use Rattle.steps.specs.declared.Signed.TheVariants.{Bits64}
-use Rattle.steps.specs.declared.Num.{Num}
-use Rattle.steps.specs.declared.Num.TheVariants.{Value, Broke}
-use Rattle.steps.specs.Step.{on_value, on_values}
+use Rattle.std.specs.Prelude.{Ok, Err}
+use Rattle.std.specs.Result.{result_ok}
+use Rattle.steps.specs.Step.{Num, on_value, on_values}
 use Rattle.steps.specs.Work.{run}
 use Rattle.formula_pressure.specs.Pressure.{difference_line, offset_lines, scale_lines, divisor_lines, quotient_lines, refined_lines, pressure_lines, pressure_formula, pressure_of}
 use Rattle.paper.specs.Numbers as no
 use Rattle.steps.specs.Step.{is_nonzero}
+use Rattle.formula.specs.Answers.{ChannelAnswer}
 use Rattle.formula.specs.Plain.{Gives, channel_plainly}
 use Rattle.formula_pressure.specs.Plain.{Dividing, dividend_line, division_line, divides}
 use Rattle.formula.proofs.Bounds.{local, back, onto, passing, word, literal, minus-within, far-is}
@@ -25,14 +26,14 @@ use Rattle.formula_pressure.proofs.Ranges.{dividing-is}
 use Rattle.formula_pressure.proofs.plain.pressure.Goals as goal
 use Rattle.formula_pressure.proofs.plain.pressure.Goals.{After-dividend-above, After-divisor-var1, After-in_range, After-is_dividing, After-offset-var2, After-quotient, After-refine, Start, Then-is_dividing}
 
-on-given : (x : ℤ) (f : ℤ → Num) → on_value (Value x) f ≡ f x
+on-given : (x : ℤ) (f : ℤ → Num) → on_value (Ok x) f ≡ f x
 unfolding on_value
 on-given x f = refl
 
 onward : (a : Num) (f g : ℤ → Num) → on_value (on_value a f) g ≡ on_value a (λ x. on_value (f x) g)
 unfolding on_value
-onward (Value x) f g = refl
-onward (Broke n) f g = refl
+onward (Ok x) f g = refl
+onward (Err m) f g = refl
 
 parted : (count : ℕ) (var2 var1 : ℤ) → run Bits64 (quotient_lines count var2 var1) ≡ on_value (run Bits64 (dividend_line count var2)) (λ x. run Bits64 (division_line x var1))
 unfolding run on_values quotient_lines dividend_line division_line
@@ -129,9 +130,15 @@ in-range-is :
 unfolding run on_value pressure_formula pressure_of
 in-range-is c = let p = lines c.before in rw p.is (rw (back p) at c.in_range.ensures)
 
+value-of : (a : ChannelAnswer) → result_ok a ≡ channel_plainly true a
+unfolding channel_plainly
+value-of (Ok value) = refl
+value-of (Err m) = refl
+
 pub returns-then-is_dividing : goal.returns-then-is_dividing
 returns-then-is_dividing c =
-    rw (c.take.ensures, divides-is c.before.before.before.before.before, c.if-is_dividing.true) (ap (channel_plainly true) (in-range-is c.before))
+    rw (c.ok.ensures.value, divides-is c.before.before.before.before.before, c.if-is_dividing.true, in-range-is c.before)
+    (value-of (pressure_of c.args.words c.args.fine c.args.count))
 
 pub returns : goal.returns
 unfolding channel_plainly

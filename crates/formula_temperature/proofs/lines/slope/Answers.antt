@@ -6,23 +6,21 @@ use Rattle.std.proofs.Common.{rules}
 use Rattle.steps.specs.Step.{subtracted, multiplied, shifted_left, shifted_right}
 use Rattle.steps.specs.Work.{run}
 use Rattle.formula_temperature.specs.Temperature.{slope_line}
+use Rattle.formula.proofs.Laws.{number-is}
 use Rattle.formula_temperature.proofs.lines.slope.Goals as goal
-use Rattle.formula_temperature.proofs.lines.slope.Goals.{Start}
-
-t2-fits : (c : Start) → SFits w16 c.args.words.t2
-t2-fits c = search rules
 
 pub returns : goal.returns
 unfolding run slope_line subtracted multiplied shifted_left shifted_right
 returns c =
+    let t2 : SFits w16 c.args.words.t2 = search rules in
     rw (
       c.shift_right-2.ensures,
       c.multiply.ensures,
       c.subtract-difference.ensures,
       c.shift_left.ensures,
       c.shift_right.ensures,
-      c.signed16-t2.ensures,
-      c.unsigned-t1.ensures,
-      c.unsigned-adc.ensures,
-      to_z-of_z (t2-fits c.before.before.before.before.before.before.before.before.before.before),
+      number-is c.number-t2.ensures,
+      number-is c.number-t1.ensures,
+      number-is c.number-adc.ensures,
+      to_z-of_z t2,
     )

@@ -4,9 +4,7 @@ use mathlib.Core.List.{List}
 use mathlib.Core.Path.{sym, ap, ◌∙◌}
 use lib.IntN.{ℤ}
 use lib.ListN.{length}
-use borrow.Author.Tests.{not-false, le-leb}
-use Rattle.plain_reading.specs.declared.PlainReading.{PlainReading}
-use Rattle.plain_reading.specs.Plain.{answer_of}
+use borrow.Author.Tests.{le-leb}
 use Rattle.plain_reading.proofs.Taken.{of-counts}
 use Rattle.onegrish_reading.specs.Plain.{done_with}
 use Rattle.onegrish_reading.proofs.plain.hand_counts.Goals as goal
@@ -18,6 +16,5 @@ pub returns : goal.returns
 returns c =
     let three = le-leb 3 (length c.args.numbers.now) c.requires.0 in
     let four = le-leb 4 (length c.args.values.now) c.requires.1 in
-    let taken = ap (λ (x : PlainReading). x.taken) (sym c.read_counts-plain.ensures) ∙ not-false c.read_counts-plain.result.taken c.if-not-plain.false in
-    let whole = c.answer.ensures ∙ ap answer_of c.read_counts-plain.ensures ∙ of-counts c.args.words c.args.counts taken in
+    let whole = c.answer.ensures ∙ of-counts c.args.words c.args.counts c.in-Some.plain (sym c.read_counts.ensures ∙ c.in-Some.is) in
     ap answered_done (rw (whole, three, four) at c.hand_reading.ensures)

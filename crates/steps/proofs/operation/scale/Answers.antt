@@ -1,6 +1,5 @@
 -- `steps::operation::scale` meets its contract: below 63 it is a product, and from there on the laws of far shifts answer.
-use mathlib.Core.Path.{◌≡◌, ap}
-use native.Mathlib.Omega.{arith}
+use mathlib.Core.Path.{ap}
 use mir.Syntax.{w64}
 use mir.Val.{of_z}
 use Rattle.steps.proofs.Laws.{back, power, scaled-far}
@@ -14,6 +13,3 @@ returns-then-amount-lt63 c =
 pub returns-then-amount-gt63 : goal.returns-then-amount-gt63
 returns-then-amount-gt63 c =
     scaled-far c.args.width c.args.x c.args.amount (λ e. c.if-x-eq0.false (ap (of_z w64) e)) c.if-amount-gt63.true
-
-at-63 : (c : Else-amount-gt63) → c.args.amount ≡ 63
-at-63 c = omega arith

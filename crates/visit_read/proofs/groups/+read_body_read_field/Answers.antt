@@ -1,90 +1,88 @@
 -- A body goes on by what its first field was, and its walk by what each field was; a field goes by its front.
-use Rattle.std.proofs.Common.{◌-◌, ◌≤◌, sym, ◌∙◌, arith}
-use Rattle.visit_read.specs.Groups.{field_at}
-use Rattle.visit_read.proofs.SlotCases.{told-moves, group-moves, slot-by-ends}
-use Rattle.visit_read.proofs.GroupCases as group
+use Rattle.std.proofs.Common.{rules, ◌≡◌, ◌-◌, ◌∙◌, sym, arith}
+use Rattle.visit_read.specs.Groups.{field_at, walk_at, body_at}
+use Rattle.visit_read.proofs.SlotCases.{moved, slot-by-ends}
+use Rattle.visit_read.proofs.GroupCases.{group-deeper, field_is, body-walks, walk-stop, walk_next}
 use Rattle.visit_read.proofs.groups.+read_body_read_field.Goals as goal
 
 -- ---- a body
 
+pub read_body-returns-in_err-next-clause-list_after : goal.read_body-returns-in_err-next-clause-list_after
+unfolding body_at
+read_body-returns-in_err-next-clause-list_after t c = search rules
+
 pub read_body-loop-i-preserved : goal.read_body-loop-i-preserved
 read_body-loop-i-preserved t c =
     let a = c.args in
-    let x = c.in-Group-r.ensures.passes in
     let f = field_at a.levels a.bytes.now a.end in
     let left = c.loop-i.invariant.walks in
-    let more = group.walk_more f a.end _ _ _ c.loop-i-test.true _ _ c.read_field-r.ensures.list_after _ _ _ left.1 c.in-Group-r.is in
-    record { below_end = x.1.0; laid_less = omega arith; walks = (left.0 - 1, omega arith, sym more ∙ left.2) }
+    let x = rw c.in-Group-2.is at c.in_ok-next-in-Group.ensures.passes in
+    let e : walk_at f (left.0 - 1) a.end c.in-Group-2.next c.in-Group-2.filled c.read_field-in-loop-i.new.list ≡ walk_at f left.0 a.end c.loop-i.i c.loop-i.n c.loop-i.list =
+    rw (walk_next f a.end c.loop-i.i c.loop-i.n c.loop-i.list left.0 c.loop-i-test.true left.1, ← c.in_ok-next-in-Group.ensures.list_after, c.in-Group-2.is) in
+    record { below_end = x.1.0; laid_less = omega arith; walks = (left.0 - 1, omega arith, e ∙ left.2) }
 
-pub read_body-returns-in-Told-r-clause-list_after : goal.read_body-returns-in-Told-r-clause-list_after
-read_body-returns-in-Told-r-clause-list_after t c =
+pub read_body-returns-in_err-next-in-Group-clause-list_after : goal.read_body-returns-in_err-next-in-Group-clause-list_after
+read_body-returns-in_err-next-in-Group-clause-list_after t c =
     let a = c.args in
     let f = field_at a.levels a.bytes.now a.end in
     let left = c.loop-i.invariant.walks in
-    let b = left.2 ∙ sym (group.body-walks f a.bytes.now a.end _ _ _ _ _ c.read_field-first.ensures.list_after _ _ c.in-Group.is) in
-    group.walk-told f a.end _ _ _ c.loop-i-test.true _ _ c.read_field-r.ensures.list_after _ _ _ left.1 c.in-Told-r.is ∙ b
+    let e : (c.from_residual-in_err-next-in-Group.result, c.read_field-in-loop-i.new.list) ≡ walk_at f left.0 a.end c.loop-i.i c.loop-i.n c.loop-i.list =
+    rw (walk_next f a.end c.loop-i.i c.loop-i.n c.loop-i.list left.0 c.loop-i-test.true left.1) (search rules) in
+    e ∙ left.2 ∙ sym (body-walks f a.bytes.now a.end _ _ _ _ _ _ _ c.in_ok-next.ensures.list_after c.in-Group.is)
 
-pub read_body-returns-in-Refused-r-clause-list_after : goal.read_body-returns-in-Refused-r-clause-list_after
-read_body-returns-in-Refused-r-clause-list_after t c =
+pub read_body-returns-in-Told-2-clause-list_after : goal.read_body-returns-in-Told-2-clause-list_after
+read_body-returns-in-Told-2-clause-list_after t c =
     let a = c.args in
     let f = field_at a.levels a.bytes.now a.end in
     let left = c.loop-i.invariant.walks in
-    let b = left.2 ∙ sym (group.body-walks f a.bytes.now a.end _ _ _ _ _ c.read_field-first.ensures.list_after _ _ c.in-Group.is) in
-    group.walk_refused f a.end _ _ _ c.loop-i-test.true _ _ c.read_field-r.ensures.list_after _ _ _ left.1 c.in-Refused-r.is ∙ b
+    let e = walk_next f a.end c.loop-i.i c.loop-i.n c.loop-i.list left.0 c.loop-i-test.true left.1 in
+    (rw (e, ← c.in_ok-next-in-Group.ensures.list_after, c.in-Told-2.is)) ∙ left.2 ∙ sym (body-walks f a.bytes.now a.end _ _ _ _ _ _ _ c.in_ok-next.ensures.list_after c.in-Group.is)
 
 pub read_body-returns-after-loop-i-clause-list_after : goal.read_body-returns-after-loop-i-clause-list_after
 read_body-returns-after-loop-i-clause-list_after t c =
     let a = c.args in
     let f = field_at a.levels a.bytes.now a.end in
-    let b = c.loop-i.invariant.walks.2 ∙ sym (group.body-walks f a.bytes.now a.end _ _ _ _ _ c.read_field-first.ensures.list_after _ _ c.in-Group.is) in
-    group.walk-stop f a.end _ _ _ _ c.loop-i-test.false ∙ b
+    let left = c.loop-i.invariant.walks in
+    sym (walk-stop f a.end _ _ _ left.0 c.loop-i-test.false) ∙ left.2 ∙ sym (body-walks f a.bytes.now a.end _ _ _ _ _ _ _ c.in_ok-next.ensures.list_after c.in-Group.is)
 
 pub read_body-returns-in-Told-clause-list_after : goal.read_body-returns-in-Told-clause-list_after
-read_body-returns-in-Told-clause-list_after t c =
-    group.body-told _ _ _ _ _ _ _ _ c.read_field-first.ensures.list_after _ _ _ c.in-Told.is c.slot_by.ensures
+unfolding body_at
+read_body-returns-in-Told-clause-list_after t c = search rules
 
 pub read_body-returns-in-Told-clause-ends : goal.read_body-returns-in-Told-clause-ends
 read_body-returns-in-Told-clause-ends t c =
-    let x = c.in-Told.ensures.passes in
-    let le : c.args.at ≤ c.in-Told.next = omega arith in
-    slot-by-ends _ _ _ _ _ _ _ _ c.slot_by.ensures le x.1
-
-pub read_body-returns-in-Refused-clause-list_after : goal.read_body-returns-in-Refused-clause-list_after
-read_body-returns-in-Refused-clause-list_after t c =
-    group.body_refused _ _ _ _ _ _ _ _ c.read_field-first.ensures.list_after _ _ c.in-Refused.is
+    let x = rw c.in-Told.is at c.in_ok-next.ensures.passes in
+    slot-by-ends _ _ _ _ _ _ _ _ c.slot_by.ensures (omega arith) x.1
 
 -- ---- a field
 
-pub read_field-returns-then-levels-eq0-clause-list_after : goal.read_field-returns-then-levels-eq0-clause-list_after
-read_field-returns-then-levels-eq0-clause-list_after t c =
-    group.field-deep _ _ _ _ _ _ _ _ c.front_at-f.ensures _ c.in-Group.is c.if-levels-eq0.true
+pub read_field-returns-in_err-next-clause-list_after : goal.read_field-returns-in_err-next-clause-list_after
+read_field-returns-in_err-next-clause-list_after t c = rw field_is (search rules)
 
-pub read_field-read_body-b-requires : goal.read_field-read_body-b-requires
-read_field-read_body-b-requires t c =
-    let m = group-moves _ _ _ _ _ _ c.front_at-f.ensures c.in-Group.is in
+pub read_field-returns-then-levels-eq0-clause-list_after : goal.read_field-returns-then-levels-eq0-clause-list_after
+read_field-returns-then-levels-eq0-clause-list_after t c = rw (field_is, c.if-levels-eq0.true) (search rules)
+
+pub read_field-read_body-requires : goal.read_field-read_body-requires
+read_field-read_body-requires t c =
+    let m = rw c.in-Group.is at (moved _ _ _ _ _ c.in_ok-next.ensures) in
     (omega arith, omega arith)
 
-pub read_field-returns-in-Done-clause-list_after : goal.read_field-returns-in-Done-clause-list_after
-read_field-returns-in-Done-clause-list_after t c =
-    group.field-closed _ _ _ _ _ _ _ _ c.front_at-f.ensures _ c.in-Group.is c.if-levels-eq0.false _ c.lay.ensures _ _ c.read_body-b.ensures.list_after _ _
-    c.in-Done.is c.lay-in-Done.ensures
+pub read_field-returns-in_err-filled-in-Group-clause-list_after : goal.read_field-returns-in_err-filled-in-Group-clause-list_after
+read_field-returns-in_err-filled-in-Group-clause-list_after t c =
+    rw (field_is, ← c.in_ok-next.ensures, c.in-Group.is, group-deeper _ _ _ _ _ _ c.if-levels-eq0.false) (search rules)
 
-pub read_field-returns-in-Done-clause-passes : goal.read_field-returns-in-Done-clause-passes
-read_field-returns-in-Done-clause-passes t c =
-    let x = c.in-Done.ensures.ends in
-    let m = group-moves _ _ _ _ _ _ c.front_at-f.ensures c.in-Group.is in
+pub read_field-returns-in_ok-filled-in-Group-clause-list_after : goal.read_field-returns-in_ok-filled-in-Group-clause-list_after
+read_field-returns-in_ok-filled-in-Group-clause-list_after t c =
+    rw (field_is, ← c.in_ok-next.ensures, c.in-Group.is, group-deeper _ _ _ _ _ _ c.if-levels-eq0.false) (search rules)
+
+pub read_field-returns-in_ok-filled-in-Group-clause-passes : goal.read_field-returns-in_ok-filled-in-Group-clause-passes
+read_field-returns-in_ok-filled-in-Group-clause-passes t c =
+    let m = rw c.in-Group.is at (moved _ _ _ _ _ c.in_ok-next.ensures) in
+    let x = c.in_ok-filled-in-Group.ensures.ends in
     omega arith
 
-pub read_field-returns-in-Refused-b-clause-list_after : goal.read_field-returns-in-Refused-b-clause-list_after
-read_field-returns-in-Refused-b-clause-list_after t c =
-    group.field-not-closed _ _ _ _ _ _ _ _ c.front_at-f.ensures _ c.in-Group.is c.if-levels-eq0.false _ c.lay.ensures _ _ c.read_body-b.ensures.list_after _ _
-    c.in-Refused-b.is
-
 pub read_field-returns-in-Told-clause-list_after : goal.read_field-returns-in-Told-clause-list_after
-read_field-returns-in-Told-clause-list_after t c = group.field_told _ _ _ _ _ _ _ _ c.front_at-f.ensures _ _ c.in-Told.is
+read_field-returns-in-Told-clause-list_after t c = rw field_is (search rules)
 
 pub read_field-returns-in-Told-clause-passes : goal.read_field-returns-in-Told-clause-passes
-read_field-returns-in-Told-clause-passes t c = told-moves _ _ _ _ _ _ _ c.front_at-f.ensures c.in-Told.is
-
-pub read_field-returns-in-Refused-clause-list_after : goal.read_field-returns-in-Refused-clause-list_after
-read_field-returns-in-Refused-clause-list_after t c = group.field-refused _ _ _ _ _ _ _ _ c.front_at-f.ensures _ _ c.in-Refused.is
+read_field-returns-in-Told-clause-passes t c = rw c.in-Told.is at (moved _ _ _ _ _ c.in_ok-next.ensures)

@@ -1,16 +1,12 @@
-use mathlib.Core.Path.{◌∙◌}
-use Rattle.visit_write.proofs.Checking.{checking-onward, checking-halt, checking-end}
+use Rattle.std.proofs.Common.{◌∙◌, arith}
+use Rattle.visit_write.proofs.Checking.{checking-on, checking-halt, checking-end}
 use Rattle.visit_write.proofs.in_order.check.Goals as goal
 
-pub returns-in-Halt : goal.returns-in-Halt
-returns-in-Halt c =
-    checking-halt _ _ _ _ c.loop-k.invariant _ _ _ c.loop-k-test.true c.step_at.ensures
-    c.turn-turn.ensures c.in-Halt.is
+pub returns-in-Err : goal.returns-in-Err
+returns-in-Err c = checking-halt _ _ _ c.loop-k.invariant _ _ c.loop-k-test.true c.step_at.ensures c.in-Err.ensures
 
 pub loop-k-preserved : goal.loop-k-preserved
-loop-k-preserved c =
-    checking-onward _ _ _ _ c.loop-k.invariant _ _ _ c.loop-k-test.true c.step_at.ensures
-    c.turn-turn.ensures c.in-Onward.is
+loop-k-preserved c = checking-on _ _ _ c.loop-k.invariant _ _ c.loop-k-test.true c.step_at.ensures c.in-Ok.ensures
 
 pub returns : goal.returns
-returns c = c.at_end.ensures ∙ checking-end _ _ _ _ c.loop-k.invariant c.loop-k-test.false
+returns c = c.at_end.ensures ∙ checking-end _ _ _ c.loop-k.invariant (omega arith)

@@ -1,2 +1,0 @@
--- What is handed over with a device.
-pub mod Laws

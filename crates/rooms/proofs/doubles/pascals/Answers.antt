@@ -1,9 +1,0 @@
--- `rooms::doubles::pascals` meets its contract: the divisor's bits are those of the definition's.
-use Rattle.std.proofs.Common.{rules}
-use lib.Ieee.{div, of_int, of_bits}
-use Rattle.rooms.specs.Points.{over}
-use Rattle.rooms.proofs.doubles.pascals.Goals as goal
-
-pub returns : goal.returns
-unfolding div over of_int of_bits
-returns c = search rules
