@@ -23,5 +23,5 @@ pub fn rest(bytes: &[u8], n: usize) -> &[u8]
 fn cut(bytes: &[u8], n: usize) -> usize
     ensures { (result ≤ size bytes.now) × (take result bytes.now ≡ take n bytes.now) × (drop result bytes.now ≡ drop n bytes.now) }
 {
-    if n <= bytes.len() { n } else { bytes.len() }
+    n.min(bytes.len())
 }

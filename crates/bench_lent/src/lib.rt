@@ -8,6 +8,7 @@ ghost use Rattle.bench_lent.specs.Lent as lent;
 pub const LONGEST_BUFFER: usize = 256;
 
 // A lent buffer of the longest length, filled with AA.
+#[tactic(auto, unfolding(crate::specs::Lent::filled))]
 pub fn filled() -> [u8; LONGEST_BUFFER]
     ensures { (result ≡ lent.filled) × (256 ≡ size result) }
 {
@@ -15,12 +16,9 @@ pub fn filled() -> [u8; LONGEST_BUFFER]
 }
 
 // A buffer's length within the longest.
+#[tactic(auto, unfolding(crate::specs::Lent::within))]
 pub fn within(n: usize) -> usize
     ensures { (result ≡ lent.within n) × (result ≤ 256) }
 {
-    if n < LONGEST_BUFFER {
-        n
-    } else {
-        LONGEST_BUFFER
-    }
+    n.min(LONGEST_BUFFER)
 }

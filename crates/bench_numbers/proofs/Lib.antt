@@ -1,2 +1,6 @@
--- What the proofs of more than one function cite.
-pub mod Ending
+-- Laws of words and of pairs.
+pub mod Front
+pub mod Whole
+pub mod Characters
+pub mod Laying
+pub mod Decimals

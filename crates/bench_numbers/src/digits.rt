@@ -1,37 +1,14 @@
 // What single digits stand for.
-ghost use Rattle.std.specs.Prelude.{◌≡◌};
+ghost use Rattle.std.specs.Prelude.{◌≡◌, ◌<◌, ◌≤◌, MatchResult};
+ghost use Rattle.bench_numbers.specs.declared.Reason.TheVariants.{NotANumber};
 ghost use Rattle.bench_numbers.specs.Reading as reading;
 
-// What a hex digit that is a letter stands for, of either case.
-// 16 where the character is none.
-fn letter_value(byte: u8) -> u8
-    ensures { result ≡ reading.letter_value byte }
-{
-    if byte < 65 {
-        return 16;
-    }
-    if byte <= 70 {
-        return byte - 55;
-    }
-    if byte < 97 {
-        return 16;
-    }
-    if byte <= 102 {
-        return byte - 87;
-    }
-    16
-}
+use crate::Reason;
 
-// What a digit stands for, 0 to 9 or 10 to 15 for a letter.
-// 16 where the character is no digit.
-pub fn value(byte: u8) -> u8
-    ensures { result ≡ reading.digit_value byte }
+// What a digit of a base of at most 16 stands for: 0 to 9, and from 10 on a letter of either case.
+pub fn value(byte: u8, base: u32) -> Result<u32, Reason>
+    requires { (2 ≤ base) × (base ≤ 16) }
+    ensures { MatchResult result (λ digit. (digit < base) × (digit ≡ reading.digit_value byte)) (λ reason. (base ≤ reading.digit_value byte) × (reason ≡ NotANumber)) }
 {
-    if byte < 48 {
-        return 16;
-    }
-    if byte <= 57 {
-        return byte - 48;
-    }
-    letter_value(byte)
+    char::from(byte).to_digit(base).ok_or(Reason::NotANumber)
 }

@@ -10,7 +10,7 @@ mod pairs;
 mod words;
 
 // Why a line is not answered.
-#[derive(Clone, Copy)]
+#[derive(Clone, Copy, Debug, PartialEq, Eq)]
 pub enum Reason {
     UnknownWord,
     WrongNumberOfWords,
@@ -20,39 +20,49 @@ pub enum Reason {
 }
 
 // An argument: its number, which for bytes is how many there are, the place where its word ends, and the place of the next byte.
-// Or why it is refused.
-#[derive(Drop)]
-pub enum Argument {
-    Read {
-        number: usize,
-        end: usize,
-        place: usize,
-    },
-    Refused(Reason),
+#[derive(Clone, Copy)]
+pub struct Argument {
+    pub number: usize,
+    pub end: usize,
+    pub place: usize,
 }
 
-// Reads the argument of a kind whose word begins at a place of a line.
+// Reads the argument of a kind whose word begins at a place of a line, or says why it is refused.
 // Bytes are laid where they are lent, from a place on, as far as they are read. The rest of a line is its place, and none of it is read.
-pub fn read(kind: u8, line: &[u8], from: usize, lent: &mut [u8], place: usize) -> Argument
+// A kind is a letter of a text and no enum: `read` promises its answer for every byte.
+#[tactic(auto, unfolding(crate::specs::Reading::argument))]
+pub fn read(
+    kind: u8,
+    line: &[u8],
+    from: usize,
+    lent: &mut [u8],
+    place: usize,
+) -> Result<Argument, Reason>
     ensures { (result, lent.new) ≡ reading.argument kind line.now from lent.old place }
 {
-    if kind == b'B' {
-        return pairs::read_bytes(line, from, lent, place);
-    }
-    if kind == b'S' {
-        return Argument::Read {
+    match kind {
+        b'B' => pairs::read_bytes(line, from, lent, place),
+        b'S' => Ok(Argument {
             number: from,
             end: from,
             place,
-        };
+        }),
+        _ => {
+            let number = numbers::read(kind, line, from)?;
+            Ok(Argument {
+                number: number.value,
+                end: number.end,
+                place,
+            })
+        }
     }
-    numbers::beside(numbers::read(kind, line, from), place)
 }
 
 // The number that a text stands for as a decimal word.
 // One more than the largest where it stands for none.
+#[tactic(auto, unfolding(crate::specs::Reading::number_of))]
 pub fn decimal(text: &[u8]) -> usize
     ensures { result ≡ reading.number_of text.now }
 {
-    numbers::value(numbers::read_decimal(text, 0))
+    numbers::read_decimal(text, 0).map_or(numbers::LARGEST + 1, |number| number.value)
 }

@@ -1,16 +1,15 @@
 // Decimals, and the pair of hex digits that is a number.
-ghost use Rattle.std.specs.Prelude.{◌≡◌, min, drop};
+ghost use Rattle.std.specs.Prelude.{◌≡◌, Ok, drop};
 ghost use Rattle.bench_numbers.specs.Reading as reading;
 ghost use Rattle.bench_numbers.specs.Words.{word};
 
-use crate::pairs::Pair;
-use crate::{Argument, Reason, digits, pairs, words};
+use crate::{Reason, digits, pairs, words};
 
-// The number that a word stands for, with the place where the word ends, or why it stands for none.
-#[derive(Drop)]
-pub enum Number {
-    Value(usize, usize),
-    Refused(Reason),
+// The number that a word stands for, and the place where the word ends.
+#[derive(Clone, Copy)]
+pub struct Number {
+    pub value: usize,
+    pub end: usize,
 }
 
 // The largest decimal.
@@ -23,102 +22,66 @@ pub const LONGEST_BUFFER: usize = 256;
 pub const LARGEST_CODE: usize = 255;
 
 // The number of an argument's kind whose word begins at a place of a line.
-pub fn read(kind: u8, line: &[u8], from: usize) -> Number
+#[tactic(auto, unfolding(crate::specs::Reading::number))]
+pub fn read(kind: u8, line: &[u8], from: usize) -> Result<Number, Reason>
     ensures { result ≡ reading.number kind (word (drop from line.now)) from }
 {
     if kind == b'P' {
         return read_octet(line, from);
     }
-    limited(kind, read_decimal(line, from))
+    limited(kind, read_decimal(line, from)?)
 }
 
-// A decimal as its kind takes it: a code within a byte, and a buffer that is not too long.
-fn limited(kind: u8, decimal: Number) -> Number
-    ensures { result ≡ reading.limited kind decimal }
+// A decimal as its kind takes it: a code within a byte, as one that a byte does not hold is out of range all the same, and a buffer that is not too long.
+fn limited(kind: u8, decimal: Number) -> Result<Number, Reason>
+    ensures { result ≡ reading.limited kind (Ok decimal) }
 {
-    match decimal {
-        Number::Refused(reason) => return Number::Refused(reason),
-        Number::Value(n, end) => {
-            if kind == b'C' {
-                return Number::Value(code(n), end);
-            }
-            if kind != b'L' {
-                return Number::Value(n, end);
-            }
-            if LONGEST_BUFFER < n {
-                return Number::Refused(Reason::TooLong);
-            }
-            return Number::Value(n, end);
-        }
+    match kind {
+        b'C' => Ok(Number {
+            value: decimal.value.min(LARGEST_CODE),
+            ..decimal
+        }),
+        b'L' if LONGEST_BUFFER < decimal.value => Err(Reason::TooLong),
+        _ => Ok(decimal),
     }
-}
-
-// A setting code: one that a byte does not hold is out of range all the same.
-fn code(n: usize) -> usize
-    ensures { result ≡ min n reading.largest_code }
-{
-    if n < LARGEST_CODE { n } else { LARGEST_CODE }
 }
 
 // The number that a word of decimal digits stands for.
 // A word of none, a character that is no digit, and a number above the largest are refused.
-pub fn read_decimal(line: &[u8], from: usize) -> Number
+pub fn read_decimal(line: &[u8], from: usize) -> Result<Number, Reason>
     ensures { result ≡ reading.decimal (word (drop from line.now)) from }
 {
-    if words::ends(line, from) {
-        return Number::Refused(Reason::NotANumber);
+    let word = words::word(line, from);
+    if word.is_empty() {
+        return Err(Reason::NotANumber);
     }
     let mut value = 0;
-    let mut i = from;
-    while !words::ends(line, i) {
-        let digit = digits::value(line[i]);
-        if 9 < digit {
-            return Number::Refused(Reason::NotANumber);
-        }
-        value = value * 10 + digit as usize;
+    for &byte in word {
+        value = value * 10 + digits::value(byte, 10)? as usize;
         if LARGEST < value {
-            return Number::Refused(Reason::NotANumber);
+            return Err(Reason::NotANumber);
         }
-        i += 1;
     }
-    Number::Value(value, i)
+    Ok(Number {
+        value,
+        end: from + word.len(),
+    })
 }
 
 // The byte that a word of exactly two hex digits stands for.
-fn read_octet(line: &[u8], from: usize) -> Number
+#[tactic(auto, using(crate::proofs::Whole::octet_of, crate::proofs::Whole::no_octet, crate::proofs::Whole::other_length))]
+fn read_octet(line: &[u8], from: usize) -> Result<Number, Reason>
     ensures { result ≡ reading.octet (word (drop from line.now)) from }
 {
-    match pairs::read_pair(line, from) {
-        Pair::Refused(_) => return Number::Refused(Reason::NotANumber),
-        Pair::Byte(byte) => {
-            if words::ends(line, from + 2) {
-                return Number::Value(byte as usize, from + 2);
-            }
-            return Number::Refused(Reason::NotANumber);
-        }
+    let word = words::word(line, from);
+    if word.len() != 2 {
+        return Err(Reason::NotANumber);
     }
-}
-
-// A number as an argument, which lays no byte.
-pub fn beside(number: Number, place: usize) -> Argument
-    ensures { result ≡ reading.beside number place }
-{
-    match number {
-        Number::Refused(reason) => return Argument::Refused(reason),
-        Number::Value(n, end) => return Argument::Read {
-            number: n,
-            end,
-            place,
-        },
-    }
-}
-
-// A number by itself, and one more than the largest for none.
-pub fn value(number: Number) -> usize
-    ensures { result ≡ reading.value_of number }
-{
-    match number {
-        Number::Refused(_) => LARGEST + 1,
-        Number::Value(n, _) => n,
+    match pairs::read_pair(word) {
+        Ok(byte) => Ok(Number {
+            value: byte as usize,
+            end: from + 2,
+        }),
+        Err(_) => Err(Reason::NotANumber),
     }
 }

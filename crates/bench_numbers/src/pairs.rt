@@ -1,93 +1,69 @@
 // Pairs of hex digits.
-ghost use Rattle.std.specs.Prelude.{◌≡◌, drop};
+ghost use Rattle.std.specs.Prelude.{◌≡◌, ◌+◌, ◌<◌, ◌^◌, length as size};
 ghost use Rattle.bench_numbers.specs.Reading as reading;
-ghost use Rattle.bench_numbers.specs.Words.{word};
 
 use crate::{Argument, Reason, digits, words};
 
-// The byte of a pair of hex digits, or why there is none.
-#[derive(Drop)]
-pub enum Pair {
-    Byte(u8),
-    Refused(Reason),
-}
-
-// The byte of the two hex digits that stand at a place of a line, in one word.
+// The byte of the two hex digits that a text begins with.
 // A character that is no digit is refused, and so is a digit alone.
-pub fn read_pair(line: &[u8], at: usize) -> Pair
-    ensures { result ≡ reading.pair (word (drop at line.now)) }
+#[tactic(auto, using(crate::proofs::Characters::none, crate::proofs::Characters::no_high, crate::proofs::Characters::alone, crate::proofs::Characters::no_low, crate::proofs::Characters::both))]
+pub fn read_pair(text: &[u8]) -> Result<u8, Reason>
+    ensures { result ≡ reading.pair text.now }
 {
-    if words::ends(line, at) {
-        return Pair::Refused(Reason::NotANumber);
+    match text {
+        [] => Err(Reason::NotANumber),
+        [high] => {
+            digits::value(*high, 16)?;
+            Err(Reason::OddHex)
+        }
+        [high, low, ..] => {
+            let high = digits::value(*high, 16)?;
+            let low = digits::value(*low, 16)?;
+            Ok((high * 16 + low) as u8)
+        }
     }
-    let high = digits::value(line[at]);
-    if 15 < high {
-        return Pair::Refused(Reason::NotANumber);
-    }
-    if words::ends(line, at + 1) {
-        return Pair::Refused(Reason::OddHex);
-    }
-    let low = digits::value(line[at + 1]);
-    if 15 < low {
-        return Pair::Refused(Reason::NotANumber);
-    }
-    Pair::Byte(high * 16 + low)
-}
-
-// Whether the word at a place of a line is a dash alone.
-fn is_dash(line: &[u8], at: usize) -> bool
-    ensures { result ≡ reading.is_dash (word (drop at line.now)) }
-{
-    if words::ends(line, at) {
-        return false;
-    }
-    if line[at] != b'-' {
-        return false;
-    }
-    words::ends(line, at + 1)
 }
 
 // Reads a word of hex pairs, and lays their bytes where they are lent, from a place on.
 // A dash stands for none.
-pub fn read_bytes(line: &[u8], from: usize, lent: &mut [u8], place: usize) -> Argument
+#[tactic(auto, using(crate::proofs::Whole::no_word, crate::proofs::Whole::dash, crate::proofs::Whole::no_dash), unfolding(crate::specs::Reading::bytes))]
+pub fn read_bytes(
+    line: &[u8],
+    from: usize,
+    lent: &mut [u8],
+    place: usize,
+) -> Result<Argument, Reason>
     ensures { (result, lent.new) ≡ reading.bytes line.now from lent.old place }
 {
-    if words::ends(line, from) {
-        return Argument::Refused(Reason::NotANumber);
-    }
-    if is_dash(line, from) {
-        return Argument::Read {
+    match words::word(line, from) {
+        [] => Err(Reason::NotANumber),
+        [b'-'] => Ok(Argument {
             number: 0,
             end: from + 1,
             place,
-        };
+        }),
+        word => lay_pairs(word, from, lent, place),
     }
-    lay_pairs(line, from, lent, place)
 }
 
 // Lays the bytes of a word's pairs where they are lent, from a place on, up to the first that is refused.
 // A byte that has no room is refused as too long.
-fn lay_pairs(line: &[u8], from: usize, lent: &mut [u8], place: usize) -> Argument
-    ensures { (result, lent.new) ≡ reading.pairs_laid place (word (drop from line.now)) from lent.old place }
+fn lay_pairs(word: &[u8], from: usize, lent: &mut [u8], place: usize) -> Result<Argument, Reason>
+    requires { from + size word.now < 2 ^ 64 }
+    ensures { (result, lent.new) ≡ reading.pairs_laid place word.now from lent.old place }
 {
-    let mut i = from;
     let mut at = place;
-    while !words::ends(line, i) {
-        match read_pair(line, i) {
-            Pair::Refused(reason) => return Argument::Refused(reason),
-            Pair::Byte(byte) => {
-                if lent.len() <= at {
-                    return Argument::Refused(Reason::TooLong);
-                }
-                lent[at] = byte;
-            }
+    for pair in word.chunks(2) {
+        let byte = read_pair(pair)?;
+        if lent.len() <= at {
+            return Err(Reason::TooLong);
         }
-        i += 2;
+        lent[at] = byte;
         at += 1;
     }
-    Argument::Read {
+    Ok(Argument {
         number: at - place,
-        end: i,
+        end: from + word.len(),
         place: at,
-    }
+    })
 }

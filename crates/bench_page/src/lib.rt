@@ -9,6 +9,7 @@ mod digits;
 
 // Writes one byte at a place of the page, and gives the next place.
 // Past the page's end nothing is written, and the place stays.
+#[tactic(auto, unfolding(crate::specs::Page::written_byte))]
 pub fn write_byte(byte: u8, out: &mut [u8], at: usize) -> usize
     ensures { (out.new, result) ≡ written_byte byte (out.old, at) }
 {
@@ -25,10 +26,8 @@ pub fn write_text(text: &[u8], out: &mut [u8], at: usize) -> usize
     ensures { (out.new, result) ≡ (out.old, at) ▹ text.now }
 {
     let mut next = at;
-    let mut i = 0;
-    while i < text.len() {
-        next = write_byte(text[i], out, next);
-        i += 1;
+    for &byte in text {
+        next = write_byte(byte, out, next);
     }
     next
 }
@@ -59,14 +58,11 @@ pub fn write_signed(z: i32, out: &mut [u8], at: usize) -> usize
 pub fn magnitude(z: i32) -> u64
     ensures { result ≡ nat_abs z }
 {
-    let wide = z as i64;
-    if wide < 0 {
-        return (0 - wide) as u64;
-    }
-    wide as u64
+    u64::from(z.unsigned_abs())
 }
 
 // Writes a byte as two hex digits, in upper case.
+#[tactic(auto, unfolding(crate::specs::Page::written, crate::specs::Digits::pair))]
 pub fn write_pair(byte: u8, out: &mut [u8], at: usize) -> usize
     ensures { (out.new, result) ≡ (out.old, at) ▹ spelt.pair byte }
 {
@@ -78,14 +74,12 @@ pub fn write_pair(byte: u8, out: &mut [u8], at: usize) -> usize
 pub fn write_bytes(bytes: &[u8], out: &mut [u8], at: usize) -> usize
     ensures { (out.new, result) ≡ (out.old, at) ▹ spelt.shown bytes.now }
 {
-    if bytes.len() == 0 {
+    if bytes.is_empty() {
         return write_byte(b'-', out, at);
     }
     let mut next = at;
-    let mut i = 0;
-    while i < bytes.len() {
-        next = write_pair(bytes[i], out, next);
-        i += 1;
+    for &byte in bytes {
+        next = write_pair(byte, out, next);
     }
     next
 }

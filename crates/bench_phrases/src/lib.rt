@@ -17,11 +17,18 @@ pub fn end(out: &mut [u8], at: usize) -> usize
 pub fn refuse(reason: Reason, out: &mut [u8], at: usize) -> usize
     ensures { (out.new, result) ≡ phrases.refused reason (out.old, at) }
 {
+    bench_page::write_text(line(reason), out, at)
+}
+
+// The line for each reason.
+fn line(reason: Reason) -> &'static [u8]
+    ensures { result.now ≡ phrases.line reason }
+{
     match reason {
-        Reason::UnknownWord => bench_page::write_text(b"? unknown word\n", out, at),
-        Reason::WrongNumberOfWords => bench_page::write_text(b"? wrong number of words\n", out, at),
-        Reason::NotANumber => bench_page::write_text(b"? not a number\n", out, at),
-        Reason::OddHex => bench_page::write_text(b"? odd hex\n", out, at),
-        Reason::TooLong => bench_page::write_text(b"? too long\n", out, at),
+        Reason::UnknownWord => b"? unknown word\n",
+        Reason::WrongNumberOfWords => b"? wrong number of words\n",
+        Reason::NotANumber => b"? not a number\n",
+        Reason::OddHex => b"? odd hex\n",
+        Reason::TooLong => b"? too long\n",
     }
 }

@@ -41,10 +41,8 @@ fn channel<F: FnOnce(i32) -> ChannelAnswer>(
     if code == 0 {
         return Err(SKIPPED);
     }
-    match heat {
-        Ok(warm) => formula(warm.fine),
-        Err(_) => Err(NO_TEMPERATURE),
-    }
+    let warm = heat.map_err(|_| NO_TEMPERATURE)?;
+    formula(warm.fine)
 }
 
 // The pressure's channel, by the maker's formula.

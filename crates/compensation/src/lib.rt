@@ -1,4 +1,5 @@
 // Compensation: what a logger's eight data bytes say of the air, channel by channel, or which number stands in a channel's place.
+// The blocks come as two slices and the codes as three bytes: C lends and hands them so, and docs/PROMISES.md promises these calls.
 #![tactic(auto)]
 
 ghost use Rattle.std.specs.Prelude.{◌≡◌};

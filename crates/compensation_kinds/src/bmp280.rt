@@ -32,6 +32,7 @@ fn read(one: &[u8], bytes: &[u8], t: u8, p: u8) -> Answer
     requires { (length one.now ≡ (chips.facts Bmp280).one) × (length bytes.now ≡ (chips.facts Bmp280).bytes) × (reg.are_codes t p 0 ≡ true) }
     ensures { reading_answer result ≡ reading_answer (Ok (by.reading_by Bmp280 (words_of one.now []) (counts_of bytes.now) t p 0)) }
 {
+    // Written out, the eight bytes show which two are zeros.
     compensation::compensate(
         one,
         &NO_BLOCK,

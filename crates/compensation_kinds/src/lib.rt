@@ -1,4 +1,5 @@
 // Compensation by the kind of part: its lengths, and whether it has humidity, are those of the table of chip facts.
+// The blocks come as two slices and the codes as three bytes: C lends and hands them so, and docs/PROMISES.md promises the call.
 #![tactic(auto)]
 
 ghost use Rattle.std.specs.Prelude.{◌≡◌};

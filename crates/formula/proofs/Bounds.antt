@@ -14,6 +14,7 @@ use mir.Syntax.{Width, w16, w32, w64}
 use mir.Val.{SFits, to_z, of_z}
 use mir.Facts.{to_z-of_z}
 use borrow.Author.Tests.{ltb-true, ltb-false, leb-true, lt-ltb}
+use Rattle.std.proofs.lemmas.Int.{unsigned_abs-mul}
 use Rattle.std.specs.Prelude.{Ok, Err}
 use Rattle.paper.specs.Numbers as no
 use Rattle.paper.specs.Answers.{missing}
@@ -29,12 +30,6 @@ abs_neg : (x : ℤ) → nat_abs (neg_ℤ x) ≡ nat_abs x
 abs_neg (pos zero) = refl
 abs_neg (pos (suc n)) = refl
 abs_neg (negsuc n) = refl
-
-abs-times : (x y : ℤ) → nat_abs (x *ℤ y) ≡ nat_abs x * nat_abs y
-abs-times (pos a) (pos b) = refl
-abs-times (pos a) (negsuc b) = abs_neg (pos (a * suc b))
-abs-times (negsuc a) (pos b) = abs_neg (pos (suc a * b))
-abs-times (negsuc a) (negsuc b) = refl
 
 pub split : (a b : ℕ) (P : ℤ → Type 0) → (a < b → P (negsuc (b - suc a))) → (b ≤ a → P (pos (a - b))) → P (sub_ℕ a b)
 split a b P f g = go (ltb a b) refl
@@ -167,7 +162,7 @@ module _ {w : Signed} {m : ℕ} {a : Work} {x : ℤ} (p : Gives w m a x) where
   one f s t = rw (back p) (step (step₁ f a) (f x) (rw p.is) s t)
 
   pub up : (k : ℕ) → ltb (m * 2 ^ k) (2 ^ half_bits w) ≡ true → Gives w (m * 2 ^ k) (step₁ (λ x. x *ℤ pos (2 ^ k)) a) (local x *ℤ pos (2 ^ k))
-  up k t = one (λ x. x *ℤ pos (2 ^ k)) (rw abs-times (mul-le-mul p.size (le_refl (2 ^ k)))) t
+  up k t = one (λ x. x *ℤ pos (2 ^ k)) (rw unsigned_abs-mul (mul-le-mul p.size (le_refl (2 ^ k)))) t
 
   pub down : (k : ℕ) → ltb (suc (m / 2 ^ k)) (2 ^ half_bits w) ≡ true → Gives w (suc (m / 2 ^ k)) (step₁ (λ x. shr_z x (2 ^ k)) a) (shr_z (local x) (2 ^ k))
   down k t =
@@ -186,7 +181,7 @@ module _ {w : Signed} {m n : ℕ} {a b : Work} {x y : ℤ} (p : Gives w m a x) (
   two f s t = rw (back p, back q) (step (step₂ f a b) (f x y) (rw (p.is, q.is)) s t)
 
   pub times : ltb (m * n) (2 ^ half_bits w) ≡ true → Gives w (m * n) (step₂ ◌*ℤ◌ a b) (local x *ℤ local y)
-  times t = two ◌*ℤ◌ (rw abs-times (mul-le-mul p.size q.size)) t
+  times t = two ◌*ℤ◌ (rw unsigned_abs-mul (mul-le-mul p.size q.size)) t
 
   -- a product that was tested
   pub times-within : (k : ℕ) → nat_abs (x *ℤ y) ≤ k → ltb k (2 ^ half_bits w) ≡ true → Gives w k (step₂ ◌*ℤ◌ a b) (local x *ℤ local y)

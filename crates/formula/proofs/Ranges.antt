@@ -1,17 +1,14 @@
 -- What the guards' tests say of the numbers that they test.
 use Prim.Native.Nat.{ℕ, suc, ◌≤◌}
-use mathlib.Core.Path.{◌≡◌, refl, sym, ◌∙◌}
-use mathlib.Core.Bool.{Bool, true, false, ◌&&◌}
+use mathlib.Core.Path.{◌≡◌, sym, ◌∙◌}
+use mathlib.Core.Bool.{true}
 use native.Mathlib.Omega.{arith}
 use lib.Dec.{leb}
 use lib.IntN.{ℤ, pos, negsuc, nat_abs}
 use borrow.Author.Tests.{leb-true}
+use Rattle.std.proofs.Math.Bool.{and-true}
 use Rattle.formula.specs.Plain.{inside, is_usual, Usual}
 use Rattle.formula.proofs.Bounds.{split}
-
-and-true : (b : Bool) → b && true ≡ b
-and-true true = refl
-and-true false = refl
 
 pub inside_is : (n m : ℕ) (z : ℤ) → inside n m z ≡ true → {k : ℕ} → suc n ≤ k → m ≤ k → nat_abs z ≤ k
 inside_is n m (pos a) e h l = let t = leb-true a m e in omega arith

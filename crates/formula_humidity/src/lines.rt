@@ -46,6 +46,7 @@ fn gain(words: HumidityWords, v: i64) -> Num
 }
 
 // The maker's second v: the two factors' product.
+#[tactic(auto, using(steps::proofs::Laws::back), unfolding(steps::specs::Work::run, steps::specs::Step::multiplied, crate::specs::Humidity::product_line))]
 fn product(words: HumidityWords, count: u32, v: i64) -> Num
     ensures { result ≡ run Bits32 (product_line words count v) }
 {

@@ -105,7 +105,11 @@ pub fn pressure(words: PressureWords, fine: i32, count: u32) -> Num
 pub fn in_range(p: i64) -> ChannelAnswer
     ensures { result ≡ answered (passed (is_pressure p) no.pressure_outside p) }
 {
-    u32::try_from(p).map_err(|_| Missing {
-        number: paper::PRESSURE_OUTSIDE,
-    })
+    // `u32::try_from` takes nine instructions more, and real air comes this way.
+    if p < 0 || p > 4294967295 {
+        return Err(Missing {
+            number: paper::PRESSURE_OUTSIDE,
+        });
+    }
+    Ok(p as u32)
 }

@@ -34,6 +34,7 @@ fn curve(words: TemperatureWords, count: u32) -> Num
 }
 
 // The fine temperature: the sum of the two.
+#[tactic(auto, using(steps::proofs::Laws::back), unfolding(steps::specs::Work::run, steps::specs::Step::on_value, steps::specs::Step::on_values, steps::specs::Step::added, crate::specs::Temperature::fine_lines))]
 pub fn fine(words: TemperatureWords, count: u32) -> Num
     ensures { result ≡ run Bits32 (fine_lines words count) }
 {
@@ -41,6 +42,7 @@ pub fn fine(words: TemperatureWords, count: u32) -> Num
 }
 
 // The temperature in hundredths of a degree, from the fine temperature.
+#[tactic(auto, using(steps::proofs::Laws::back), unfolding(steps::specs::Work::run, steps::specs::Step::added, steps::specs::Step::multiplied, steps::specs::Step::shifted_right, crate::specs::Temperature::degrees_line))]
 pub fn degrees(fine: i64) -> Num
     ensures { result ≡ run Bits32 (degrees_line fine) }
 {

@@ -5,14 +5,13 @@ use mathlib.Core.Bool.{Bool, true, false, true≢false}
 use mathlib.Core.List.{List, [], ◌∷◌, ◌++◌}
 use native.Mathlib.Omega.{arith}
 use lib.ListN.{take}
+use Rattle.std.specs.Prelude.{Option, None, Some}
 use Rattle.paper.specs.Registers as reg
 use Rattle.kinds.specs.declared.Kind.{Kind}
 use Rattle.kinds.specs.Chips.{facts}
 use Rattle.machine.specs.declared.Phase.{Phase}
 use Rattle.machine.specs.declared.Phase.TheVariants.{Sleep, Standby}
-use Rattle.machine.specs.declared.Held.TheVariants.{Nothing}
-use Rattle.machine.specs.declared.Burst.{Burst}
-use Rattle.machine.specs.declared.Burst.TheVariants.{Closed, Open}
+use Rattle.machine.specs.declared.OpenBurst.{OpenBurst}
 use Rattle.machine.specs.declared.Codes.{Codes}
 use Rattle.machine.specs.declared.Device.{Device}
 use Rattle.machine.specs.declared.Ledger.{Ledger}
@@ -45,12 +44,12 @@ use Rattle.ledger.proofs.Turn.{begun, controlled_by, codes-by, uncopying, mode-r
 -- ---- the close of a turn
 
 -- with none waiting only the burst ends
-ends : (m : Machine) → is_there m.waiting ≡ false → ended m ≡ with_burst Closed m
+ends : (m : Machine) → is_there m.waiting ≡ false → ended m ≡ with_burst None m
 unfolding waiting_shown
-ends m w = ap (with_burst Closed) (passed (is_there m.waiting) _ m w)
+ends m w = ap (with_burst None) (passed (is_there m.waiting) _ m w)
 
 -- the mark of the shown conversion, and the counts
-pub closed_after : (kind : Kind) (m : Machine) (t : Turn) → is_there m.waiting ≡ false → (whole_closing (read-from m t kind)).machine ≡ with_burst Closed (delivering (read-from m t kind))
+pub closed_after : (kind : Kind) (m : Machine) (t : Turn) → is_there m.waiting ≡ false → (whole_closing (read-from m t kind)).machine ≡ with_burst None (delivering (read-from m t kind))
 unfolding showing delivering
 closed_after kind m t w = ends (delivering (read-from m t kind)) w
 
@@ -67,8 +66,8 @@ one_more true l p = (refl, omega arith)
 one_more false l p = (refl, omega arith)
 
 -- of a running machine
-pub delivers : (kind : Kind) (m : Machine) (t : Turn) → m.device.kind ≡ kind → Fits kind t → runs m.device.phase ≡ true → m.device.held ≡ Nothing
-    → m.burst ≡ Closed → is_there m.waiting ≡ false → 1 ≤ m.ledger.begun → m.ledger.delivered < reg.most_begun
+pub delivers : (kind : Kind) (m : Machine) (t : Turn) → m.device.kind ≡ kind → Fits kind t → runs m.device.phase ≡ true → m.device.held ≡ None
+    → m.burst ≡ None → is_there m.waiting ≡ false → 1 ≤ m.ledger.begun → m.ledger.delivered < reg.most_begun
     → let x = closed (after m (measured kind t)) t.lent in Delivers kind m.ledger.begun (m.ledger.delivered + 1) m.device.codes t x.0 x.1
 unfolding showing
 delivers kind m t same f u n b w some space =
@@ -102,31 +101,31 @@ module _ (kind : Kind) (es : List Event) where
   pub copying-now : (b : Bool) → (device_in h).copying ≡ b → now.device.copying ≡ b
   copying-now b e = ap (λ (d : Device). d.copying) (kept kind es).device-is ∙ e
 
-  pub closed-now : open_in h ≡ false → now.burst ≡ Closed
+  pub closed-now : open_in h ≡ false → now.burst ≡ None
   closed-now o = at now.burst ((kept kind es).right.open_is ∙ o)
     where
-      at : (b : Burst) → is_open b ≡ false → b ≡ Closed
-      at Closed e = refl
-      at (Open first next) e = absurd (true≢false e)
+      at : (b : Option OpenBurst) → is_open b ≡ false → b ≡ None
+      at None e = refl
+      at (Some b) e = absurd (true≢false e)
 
   pub room-now : begun_in h < reg.most_begun → now.ledger.begun < reg.most_begun
   room-now l = omega (arith, (kept kind es).right.begun-is)
 
   -- where no burst is open none waits
-  pub none-waiting : now.burst ≡ Closed → is_there now.waiting ≡ false
+  pub none-waiting : now.burst ≡ None → is_there now.waiting ≡ false
   none-waiting b = let k = kept kind es in k.right.waits-is ∙ none-waits (history kind es) (sym k.right.open_is ∙ ap is_open b)
 
   pub kind-now : now.device.kind ≡ kind
   kind-now = kind-is (kept kind es)
 
-  none-held : runs now.device.phase ≡ false → now.device.held ≡ Nothing
+  none-held : runs now.device.phase ≡ false → now.device.held ≡ None
   none-held = (kept kind es).tidy.none-held
 
   begun_more : now.ledger.begun < reg.most_begun → (begun_if true now.ledger).begun ≡ now.ledger.begun + 1
   begun_more l = omega arith
 
   -- a machine r that has just begun one more
-  pub turns : (t : Turn) (r : Machine) (c : Codes) → r.device.kind ≡ kind → Fits kind t → runs r.device.phase ≡ true → r.device.held ≡ Nothing → r.burst ≡ Closed
+  pub turns : (t : Turn) (r : Machine) (c : Codes) → r.device.kind ≡ kind → Fits kind t → runs r.device.phase ≡ true → r.device.held ≡ None → r.burst ≡ None
       → is_there r.waiting ≡ false → r.device.codes ≡ c → r.ledger.begun ≡ now.ledger.begun + 1 → r.ledger.delivered ≡ now.ledger.delivered → now.ledger.begun < reg.most_begun
       → let x = closed (after r (measured kind t)) t.lent in Delivers kind (now.ledger.begun + 1) (now.ledger.delivered + 1) c t x.0 x.1
   turns t r c same f u n b w q begun-is delivered-is l =
@@ -135,7 +134,7 @@ module _ (kind : Kind) (es : List Event) where
 
   -- by a write, in the phase p
   writes : (p : Phase) → runs p ≡ false → (t : Turn) → Fits kind t → runs (phase_after p t.f4) ≡ true
-      → now.device.phase ≡ p → now.device.copying ≡ false → now.burst ≡ Closed → now.ledger.begun < reg.most_begun → WriteRunsTruly kind now t
+      → now.device.phase ≡ p → now.device.copying ≡ false → now.burst ≡ None → now.ledger.begun < reg.most_begun → WriteRunsTruly kind now t
   writes p idle t f v q c b l =
       let r : Machine = begun now (controlled_by t now.device) in
       let e : after now (by_write t) ≡ r = write-begins now t p idle v l q c b in

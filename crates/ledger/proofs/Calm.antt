@@ -5,12 +5,11 @@ use mathlib.Core.Bool.{Bool, true, false, not, cond, false≢true}
 use mathlib.Core.List.{List, [], ◌∷◌}
 use lib.Dec.{eqb}
 use borrow.Author.Tests.{not-true}
+use Rattle.std.specs.Prelude.{Option, None, Some}
 use Rattle.laws.specs.Choices.{pick}
 use Rattle.kinds.specs.declared.Kind.{Kind}
 use Rattle.machine.specs.declared.Phase.{Phase}
 use Rattle.machine.specs.declared.Phase.TheVariants.{Sleep, Forced, Normal, Standby}
-use Rattle.machine.specs.declared.Held.{Held}
-use Rattle.machine.specs.declared.Held.TheVariants.{Nothing, Byte}
 use Rattle.machine.specs.declared.Device.{Device}
 use Rattle.machine.specs.declared.Machine.{Machine}
 use Rattle.machine.specs.declared.Outcome.{Outcome}
@@ -48,10 +47,10 @@ calm-rested d f =
     let no = not-true d.copying (and_left (not d.copying) (runs d.phase) f) in
     pick (λ (k : Device). k.copying ≡ false) (is_forced d.phase) (λ _. no) (λ _. no)
 
-calm-held : (q : Held) (d : Device) (m : Machine) → Calm d → Calm (held_effect q (with_device d m)).device
+calm-held : (q : Option ℕ) (d : Device) (m : Machine) → Calm d → Calm (held_effect q (with_device d m)).device
 unfolding effect held_effect
-calm-held Nothing d m c = c
-calm-held (Byte v) d m c = calm-controlled d v c
+calm-held None d m c = c
+calm-held (Some v) d m c = calm-controlled d v c
 
 calm-ended : (k : Machine) (d : Device) → k.device ≡ d → Calm d → Calm (ended k).device
 calm-ended k d e c = rw (ended-device k, e) c

@@ -4,10 +4,9 @@ use mathlib.Core.Path.{◌≡◌, refl, ap, ◌∙◌}
 use mathlib.Core.Bool.{Bool, true, false, cond, ◌&&◌, ◌||◌, false≢true, true≢false}
 use native.Mathlib.Omega.{arith}
 use lib.Dec.{eqb}
+use Rattle.std.specs.Prelude.{Option, None, Some}
 use Rattle.machine.specs.declared.Phase.{Phase}
 use Rattle.machine.specs.declared.Phase.TheVariants.{Sleep, Forced, Normal, Standby}
-use Rattle.machine.specs.declared.Held.{Held}
-use Rattle.machine.specs.declared.Held.TheVariants.{Nothing, Byte}
 use Rattle.machine.specs.declared.Device.{Device}
 use Rattle.machine.specs.Fields.{with_held, with_phase, with_copying}
 use Rattle.machine.specs.State.{runs, sleeps, stands_by}
@@ -97,13 +96,13 @@ module _ (d : Device) (v : ℕ) (idle : runs d.phase ≡ false) where
 -- ---- a finish
 
 -- the machine rests, and what was held is taken out
-pub rests-as : (d : Device) → with_held Nothing (rested d) ≡ finishes d
+pub rests-as : (d : Device) → with_held None (rested d) ≡ finishes d
 rests-as d = at d.phase refl
   where
     cleared : d.f4 / 4 * 4 ≡ d.f4 - d.f4 % 4
     cleared = omega arith
 
-    at : (p : Phase) → d.phase ≡ p → with_held Nothing (rested d) ≡ finishes d
+    at : (p : Phase) → d.phase ≡ p → with_held None (rested d) ≡ finishes d
     at Sleep e = rw e
     at Forced e = rw (e, cleared)
     at Normal e = rw e
@@ -120,9 +119,9 @@ finished-idle d = at (is_forced d.phase)
     at false = refl
 
 -- the held F4
-pub held-begins-is : (q : Held) (p : Phase) → runs p ≡ false → control.held_begins q p ≡ answers.held_begins q p
-held-begins-is Nothing p i = refl
-held-begins-is (Byte v) p i = (agrees p i (v % 4) (omega arith)).begins-is
+pub held-begins-is : (q : Option ℕ) (p : Phase) → runs p ≡ false → control.held_begins q p ≡ answers.held_begins q p
+held-begins-is None p i = refl
+held-begins-is (Some v) p i = (agrees p i (v % 4) (omega arith)).begins-is
 
 -- ---- a wake
 

@@ -4,10 +4,9 @@ use mathlib.Core.Path.{◌≡◌, refl, ap, ap₂, subst}
 use mathlib.Core.Bool.{Bool, true, false, and-true, and-not_self}
 use mathlib.Core.List.{List}
 use native.Mathlib.Omega.{arith}
+use Rattle.std.specs.Prelude.{None}
 use Rattle.paper.specs.Registers.{most_begun}
 use Rattle.kinds.specs.declared.Kind.{Kind}
-use Rattle.machine.specs.declared.Held.TheVariants.{Nothing}
-use Rattle.machine.specs.declared.Burst.TheVariants.{Closed}
 use Rattle.machine.specs.declared.Conversion.{Conversion}
 use Rattle.machine.specs.declared.Device.{Device}
 use Rattle.machine.specs.declared.Ledger.{Ledger}
@@ -43,7 +42,7 @@ pub record Tidy (m : Machine) : Type 0 where
   pub none-shown : is_there m.shown ≡ false → m.shown ≡ no_conversion m.device.kind
   pub none-waits : is_there m.waiting ≡ false → m.waiting ≡ no_conversion m.device.kind
   pub unread-waits : m.waiting.delivered ≡ false
-  pub none-held : busy m ≡ false → m.device.held ≡ Nothing
+  pub none-held : busy m ≡ false → m.device.held ≡ None
 
 -- ---- with room no count is cut
 
@@ -96,7 +95,7 @@ module _ {kind : Kind} (m : Machine) (h : List (Happening kind)) (same : m.devic
     where
       at : (w : Bool) → is_there m.waiting ≡ w → book (ended m) ≡ enter {kind = m.device.kind} closed false m.device.codes (book m)
       at true e = rw (e, t.unread-waits, overwritten-more (is_unread m.shown) m.ledger (omega (arith, t.small, sum, r.standing-is)))
-      at false e = rw e (ap₂ (λ (w : Conversion) (l : Ledger). book (with_burst Closed (with_waiting w (with_ledger l m)))) (t.none-waits e) (overwritten-none m.ledger))
+      at false e = rw e (ap₂ (λ (w : Conversion) (l : Ledger). book (with_burst None (with_waiting w (with_ledger l m)))) (t.none-waits e) (overwritten-none m.ledger))
 
   pub enters-whole : book (ended (delivering m)) ≡ enter {kind = kind} closed true m.device.codes (book m)
   unfolding showing delivering waiting_shown

@@ -9,16 +9,16 @@ use lib.Dec.{eqb, leb, ltb}
 use lib.ListN.{get_or, length, take}
 use lib.Seq.{length-take-le}
 use borrow.Author.Tests.{leb-true, ltb-true, le-leb, lt-ltb, le-ltb, ne_eqb, eqb-true, eqb-false}
+use Rattle.std.specs.Prelude.{Option, None, Some}
 use Rattle.paper.specs.Registers as reg
 use Rattle.kinds.specs.declared.Kind.{Kind}
 use Rattle.kinds.specs.Chips.{facts}
 use Rattle.kinds.proofs.Figures.{figures}
-use Rattle.machine.specs.declared.Burst.{Burst}
-use Rattle.machine.specs.declared.Burst.TheVariants.{Closed, Open}
+use Rattle.machine.specs.declared.OpenBurst.{OpenBurst}
 use Rattle.machine.specs.declared.Machine.{Machine}
 use Rattle.machine.specs.State.{is_open}
 use Rattle.machine.specs.Data.{register}
-use Rattle.machine.specs.Events.{is_whole, byte_given}
+use Rattle.machine.specs.Events.{is_whole, byte_given, burst_at}
 use Rattle.ledger.specs.Happening.{Happening, began, finished, lost, opened, gave, closed, changed}
 use Rattle.ledger.specs.Bytes.{data_bytes}
 use Rattle.ledger.specs.History.{opened_at, given_in, has_address, each_below, gave_data, whole_in, last_finished, before_opened, shown_by}
@@ -45,9 +45,9 @@ pub record Spans (i j f : ℕ) (l : List (ℕ × ℕ)) : Type 0 where
   pub given_is : (a : ℕ) → has_address a l ≡ within i j a
 
 -- of a machine's burst
-abbrev pub Spanned : Burst → ℕ → List (ℕ × ℕ) → Type 0
-Spanned Closed f l = Unit {0}
-Spanned (Open i j) f l = Spans i j f l
+abbrev pub Spanned : Option OpenBurst → ℕ → List (ℕ × ℕ) → Type 0
+Spanned None f l = Unit {0}
+Spanned (Some b) f l = Spans b.first b.next f l
 
 pub spans-opened : (a : ℕ) → Spans a a a []
 spans-opened i = record { first-is = refl; next-is = omega arith; given_is = none }
@@ -89,9 +89,9 @@ each_at (suc n) f e k l = at (eqb k n) refl (each_at n f (and_right (f n) (each_
     at false q i = let z = eqb-false k n q in i (omega arith)
 
 -- the machine's test of a burst from i, next at j
-spans-whole : {kind : Kind} (i j : ℕ) (h : List (Happening kind)) → Spans i j (opened_at h) (given_in h) → is_whole kind (Open i j) ≡ whole_in h
+spans-whole : {kind : Kind} (i j : ℕ) (h : List (Happening kind)) → Spans i j (opened_at h) (given_in h) → is_whole kind (burst_at i j) ≡ whole_in h
 unfolding whole_in
-spans-whole {kind} i j h s = same_test (is_whole kind (Open i j)) (each_below bytes (gave_data h)) all ends
+spans-whole {kind} i j h s = same_test (is_whole kind (burst_at i j)) (each_below bytes (gave_data h)) all ends
   where
     bytes : ℕ
     bytes = (facts kind).bytes
@@ -105,22 +105,22 @@ spans-whole {kind} i j h s = same_test (is_whole kind (Open i j)) (each_below by
     some : 1 ≤ bytes
     some = (figures kind).some
 
-    all : is_whole kind (Open i j) ≡ true → each_below bytes (gave_data h) ≡ true
+    all : is_whole kind (burst_at i j) ≡ true → each_below bytes (gave_data h) ≡ true
     all e =
         let low = leb-true i reg.first_data (and_left (leb i reg.first_data) (ltb last j) e) in
         let high = ltb-true last j (and_right (leb i reg.first_data) (ltb last j) e) in
         each_from bytes (gave_data h) (λ k l. s.given_is (reg.first_data + k) ∙ within-from i j (reg.first_data + k) (omega arith) (omega (arith, ends_at)))
 
-    ends : each_below bytes (gave_data h) ≡ true → is_whole kind (Open i j) ≡ true
+    ends : each_below bytes (gave_data h) ≡ true → is_whole kind (burst_at i j) ≡ true
     ends e =
         let low = within_low i j reg.first_data (sym (s.given_is reg.first_data) ∙ each_at bytes (gave_data h) e 0 some) in
         let at_last = each_at bytes (gave_data h) e (bytes - 1) (omega (arith, some)) in
         let high = within-high i j (reg.first_data + (bytes - 1)) (sym (s.given_is (reg.first_data + (bytes - 1))) ∙ at_last) in
         both (leb i reg.first_data) (ltb last j) (le-leb i reg.first_data low) (lt-ltb last j (omega (arith, ends_at, some, high)))
 
-pub whole_is : {kind : Kind} (b : Burst) (h : List (Happening kind)) → is_open b ≡ true → Spanned b (opened_at h) (given_in h) → is_whole kind b ≡ whole_in h
-whole_is Closed h o s = absurd (false≢true o)
-whole_is (Open i j) h o s = spans-whole i j h s
+pub whole_is : {kind : Kind} (b : Option OpenBurst) (h : List (Happening kind)) → is_open b ≡ true → Spanned b (opened_at h) (given_in h) → is_whole kind b ≡ whole_in h
+whole_is None h o s = absurd (false≢true o)
+whole_is (Some b) h o s = spans-whole b.first b.next h s
 
 -- ---- the bytes
 
@@ -136,7 +136,7 @@ register-data a m l u =
       le-ltb (facts m.device.kind).last a u,
     )
 
-pub gives-value : (m : Machine) (i j : ℕ) → m.burst ≡ Open i j → ltb reg.last_register j ≡ false → (byte_given m).value ≡ register j m
+pub gives-value : (m : Machine) (i j : ℕ) → m.burst ≡ burst_at i j → ltb reg.last_register j ≡ false → (byte_given m).value ≡ register j m
 gives-value m i j e l = rw (e, l)
 
 -- a conversion's bytes have eight places, of which the part's own are as many as it has

@@ -4,13 +4,12 @@ use mathlib.Core.Path.{◌≡◌, refl, sym, ap, ◌∙◌, subst}
 use mathlib.Core.Bool.{Bool, true, false, not}
 use mathlib.Core.List.{List, ◌∷◌, ◌++◌}
 use native.Mathlib.Omega.{arith}
+use Rattle.std.specs.Prelude.{None}
 use Rattle.laws.specs.Choices.{pick}
 use Rattle.paper.specs.Numbers.{done, burst_is_open, address_not_allowed}
 use Rattle.paper.specs.Registers as reg
 use Rattle.kinds.specs.declared.Kind.{Kind}
 use Rattle.machine.specs.declared.Phase.TheVariants.{Forced, Normal, Standby}
-use Rattle.machine.specs.declared.Held.TheVariants.{Nothing}
-use Rattle.machine.specs.declared.Burst.TheVariants as burst
 use Rattle.machine.specs.declared.Codes.{Codes}
 use Rattle.machine.specs.declared.Device.{Device}
 use Rattle.machine.specs.declared.Ledger.{Ledger}
@@ -20,7 +19,7 @@ use Rattle.machine.specs.Fields.{with_device, with_burst, with_ledger}
 use Rattle.machine.specs.State.{fresh, runs, is_forced, is_open, is_there, is_unread}
 use Rattle.machine.specs.Counts.{begun_if, overwritten_if}
 use Rattle.machine.specs.Control.{phase_after, latched, controlled}
-use Rattle.machine.specs.Events.{answered, rested, showing, awake, closed}
+use Rattle.machine.specs.Events.{answered, rested, showing, awake, closed, burst_at}
 use Rattle.machine.specs.declared.Event.{Event}
 use Rattle.machine.specs.declared.Event.TheVariants.{Open}
 use Rattle.machine.specs.Event.{next, after}
@@ -51,10 +50,10 @@ module _ (kind : Kind) (es : List Event) (s t : Turn) (g : Fits kind s) (f : Fit
   running : runs now.device.phase ≡ true
   running = runs-is now.device.phase ∙ ap (λ (d : Device). is_converting d.phase) (kept kind es).device-is ∙ a.runs-now
 
-  not-held : now.device.held ≡ Nothing
+  not-held : now.device.held ≡ None
   not-held = ap (λ (d : Device). d.held) (kept kind es).device-is ∙ a.none-held
 
-  none_open : now.burst ≡ burst.Closed
+  none_open : now.burst ≡ None
   none_open = closed-now kind es a.none_open
 
   room : now.ledger.begun < reg.most_begun
@@ -91,7 +90,7 @@ module _ (kind : Kind) (es : List Event) (s t : Turn) (g : Fits kind s) (f : Fit
   done-begun = overwritten-begun (is_unread now.shown) now.ledger
 
   -- r, which runs, has what the finish left, and one more begun
-  delivers-from : (r : Machine) → r.device.kind ≡ now.device.kind → runs r.device.phase ≡ true → r.device.codes ≡ codes_of kind t → r.device.held ≡ Nothing
+  delivers-from : (r : Machine) → r.device.kind ≡ now.device.kind → runs r.device.phase ≡ true → r.device.codes ≡ codes_of kind t → r.device.held ≡ None
       → r.burst ≡ (done-with k s).burst → r.waiting ≡ (done-with k s).waiting → r.ledger ≡ begun_if true (done-with k s).ledger
       → let x = closed (after r (measured kind t)) t.lent in Delivers kind (now.ledger.begun + 1) (now.ledger.delivered + 1) (codes_of kind t) t x.0 x.1
   unfolding showing
@@ -111,22 +110,22 @@ module _ (kind : Kind) (es : List Event) (s t : Turn) (g : Fits kind s) (f : Fit
         is_held = is_held;
         begins = subst (λ (k : Machine). Begins now k (codes_of kind t)) (sym e) (begins-from (done-with k s) done-begun u);
         begins-in-burst = λ i w. subst (λ (k : Machine). Begins now k (codes_of kind t)) (sym (in-burst i w u))
-            (begins-from (landed-with (with_burst (burst.Open i i) k) s) (landed-begun (with_burst (burst.Open i i) k) _) u);
+            (begins-from (landed-with (with_burst (burst_at i i) k) s) (landed-begun (with_burst (burst_at i i) k) _) u);
         delivers = subst (λ (k : Machine). let x = closed (after k (measured kind t)) t.lent in Delivers kind (now.ledger.begun + 1) (now.ledger.delivered + 1) (codes_of kind t) t x.0 x.1)
             (sym e) (delivers-from r (rested-kind k.device) u held-codes refl refl refl refl);
       }
     where
-      opens : (i : ℕ) → reg.is_readable i ≡ true → next (holding now t) (Open i) ≡ with_burst (burst.Open i i) (holding now t)
+      opens : (i : ℕ) → reg.is_readable i ≡ true → next (holding now t) (Open i) ≡ with_burst (burst_at i i) (holding now t)
       opens i w =
           ap (λ (o : Outcome). o.machine)
           (passed (is_open now.burst) (answered burst_is_open (holding now t)) _ (ap is_open none_open)
-          ∙ passed (not (reg.is_readable i)) (answered address_not_allowed (holding now t)) (answered done (with_burst (burst.Open i i) (holding now t))) (ap not w))
+          ∙ passed (not (reg.is_readable i)) (answered address_not_allowed (holding now t)) (answered done (with_burst (burst_at i i) (holding now t))) (ap not w))
 
       in-burst : (i : ℕ) → reg.is_readable i ≡ true → runs (phase_after (rested k.device).phase t.f4) ≡ true
-          → after now (by_write t ++ Open i ∷ finish s) ≡ taken true (landed-with (with_burst (burst.Open i i) k) s)
+          → after now (by_write t ++ Open i ∷ finish s) ≡ taken true (landed-with (with_burst (burst_at i i) k) s)
       in-burst i w u =
           ap (λ (k : Machine). after (next k (Open i)) (finish s)) holds ∙ ap (λ (k : Machine). after k (finish s)) (opens i w)
-          ∙ finish-takes (with_burst (burst.Open i i) (holding now t)) s g running t.f4 refl true u room
+          ∙ finish-takes (with_burst (burst_at i i) (holding now t)) s g running t.f4 refl true u room
 
   -- ---- it sets the codes of the next wake
 

@@ -7,14 +7,12 @@ use native.Mathlib.Omega.{arith}
 use lib.Dec.{ltb}
 use lib.ListN.{get_or}
 use borrow.Author.Tests.{leb-false}
+use Rattle.std.specs.Prelude.{Option, None, Some}
 use Rattle.laws.specs.Choices.{pick}
 use Rattle.paper.specs.Registers as reg
 use Rattle.kinds.specs.declared.Kind.{Kind}
 use Rattle.kinds.specs.Chips.{facts}
 use Rattle.machine.specs.declared.Phase.{Phase}
-use Rattle.machine.specs.declared.Held.{Held}
-use Rattle.machine.specs.declared.Held.TheVariants.{Nothing, Byte}
-use Rattle.machine.specs.declared.Burst.TheVariants as burst
 use Rattle.machine.specs.declared.Codes.{Codes}
 use Rattle.machine.specs.declared.Device.{Device}
 use Rattle.machine.specs.declared.Machine.{Machine}
@@ -27,7 +25,7 @@ use Rattle.machine.specs.Counts.{is_barred, begun_if}
 use Rattle.machine.specs.Control as control
 use Rattle.machine.specs.Control.{effect, held_effect}
 use Rattle.machine.specs.Data.{in_range, stored, register}
-use Rattle.machine.specs.Events.{reset, rested, held_will_begin, finished_one, converted, is_whole, delivering, ended, awake, byte_given}
+use Rattle.machine.specs.Events.{reset, rested, held_will_begin, finished_one, converted, is_whole, delivering, ended, awake, byte_given, burst_at}
 use Rattle.machine.specs.Event.{next, answer, after}
 use Rattle.machine.proofs.Walk.{Steps, refuses-not-done, walk}
 use Rattle.ledger.specs.Happening.{Change, copied, wrote_f2, wrote_f5, held_f4, took_f4, Happening, began, finished, lost, opened, gave, closed, changed}
@@ -124,7 +122,7 @@ begun-runs : (d : Device) → runs (begins d).phase ≡ true
 begun-runs d = pick (λ (p : Phase). runs p ≡ true) (is_standby d.phase || asks_normal d.f4) (λ _. refl) (λ _. refl)
 
 kept-changed : {kind : Kind} (x : Change) (m : Machine) (h : List (Happening kind)) → runs (changes x m.device).phase ≡ busy m → (busy m ≡ true → (changes x m.device).codes ≡ m.device.codes)
-    → (busy m ≡ false → (changes x m.device).held ≡ Nothing) → Kept m h → Kept (with_device (changes x m.device) m) (changed x ∷ h)
+    → (busy m ≡ false → (changes x m.device).held ≡ None) → Kept m h → Kept (with_device (changes x m.device) m) (changed x ∷ h)
 kept-changed x m h e c n k = let t = k.tidy in
     enters (changed x) m (with_device (changes x m.device) m) h tt e refl (λ u. c (sym e ∙ u) ∙ k.right.codes-is (sym e ∙ u)) (ap (changes x) k.device-is)
     (record {
@@ -158,24 +156,24 @@ kept-finished m x y z h u k =
     (λ q. absurd (true≢false (sym q ∙ i))) (ap finishes k.device-is)
     (tidy-lands m d x y z refl one refl k.tidy) (rw (lands-burst m d x y z) k.spanned) k.given k
 
-kept-opened : {kind : Kind} (m : Machine) (a : ℕ) (h : List (Happening kind)) → is_open m.burst ≡ false → Kept m h → Kept (with_burst (burst.Open a a) m) (opened a ∷ h)
-kept-opened m a h o k = enters (opened a) m (with_burst (burst.Open a a) m) h o refl refl k.right.codes-is k.device-is (tidy-burst m (burst.Open a a) k.tidy) (spans-opened a) tt k
+kept-opened : {kind : Kind} (m : Machine) (a : ℕ) (h : List (Happening kind)) → is_open m.burst ≡ false → Kept m h → Kept (with_burst (burst_at a a) m) (opened a ∷ h)
+kept-opened m a h o k = enters (opened a) m (with_burst (burst_at a a) m) h o refl refl k.right.codes-is k.device-is (tidy-burst m (burst_at a a) k.tidy) (spans-opened a) tt k
 
-kept-gave : {kind : Kind} (m : Machine) (i j : ℕ) (h : List (Happening kind)) → m.burst ≡ burst.Open i j → Kept m h
-    → Kept (with_burst (burst.Open i (j + 1)) m) (gave (register j m) ∷ h)
+kept-gave : {kind : Kind} (m : Machine) (i j : ℕ) (h : List (Happening kind)) → m.burst ≡ burst_at i j → Kept m h
+    → Kept (with_burst (burst_at i (j + 1)) m) (gave (register j m) ∷ h)
 kept-gave {kind} m i j h e k =
     let open_is : is_open m.burst ≡ true = ap is_open e in
     let shown-is : (book m).shown ≡ shown_by h = k.right.shown-is ∙ rw (← k.right.open_is, open_is) in
     let s : Spans i j (opened_at h) (given_in h) = rw e at k.spanned in
     let Is : ℕ → Type 0 = λ a. reg.first_data ≤ a → a ≤ (facts kind).last → register j m ≡ get_or (shown_by h).bytes (a - reg.first_data) 0 in
     let byte : Is j = λ q w. register-data j m q (rw (kind-is k) w) ∙ ap (λ (c : Measurement). get_or c.bytes (j - reg.first_data) 0) shown-is in
-    enters (gave (register j m)) m (with_burst (burst.Open i (j + 1)) m) h open_is refl (rw open_is) k.right.codes-is k.device-is
-    (tidy-burst m (burst.Open i (j + 1)) k.tidy)
+    enters (gave (register j m)) m (with_burst (burst_at i (j + 1)) m) h open_is refl (rw open_is) k.right.codes-is k.device-is
+    (tidy-burst m (burst_at i (j + 1)) k.tidy)
     (spans-gave i j (opened_at h) (register j m) (given_in h) s) (subst Is s.next-is byte, k.given) k
 
 -- by the machine's test of the burst, which is the history's
 closes : {kind : Kind} (m : Machine) (n : Machine) (h : List (Happening kind)) (g : Bool) → is_open m.burst ≡ true → is_whole m.device.kind m.burst ≡ g
-    → n.device ≡ m.device → n.burst ≡ burst.Closed → book n ≡ enter {kind = kind} closed g m.device.codes (book m) → Tidy n → Kept m h → Kept n (closed ∷ h)
+    → n.device ≡ m.device → n.burst ≡ None → book n ≡ enter {kind = kind} closed g m.device.codes (book m) → Tidy n → Kept m h → Kept n (closed ∷ h)
 closes {kind} m n h g o w d c b t k =
     enters closed m n h o (rw d)
     (subst (λ (c : Codes). book n ≡ enter {kind = kind} closed (whole_in h) c (book m)) (sym (ap (λ (d : Device). d.codes) d)) (rw (← whole_in_lem k o, w) b))
@@ -222,14 +220,14 @@ kept-effect m v h i f k =
 rested-held : (d : Device) → (rested d).held ≡ d.held
 rested-held d = pick (λ (k : Device). k.held ≡ d.held) (state.is_forced d.phase) (λ _. refl) (λ _. refl)
 
-kept-held : {kind : Kind} (m : Machine) (q : Held) (x y z : ℕ) (h : List (Happening kind)) → m.device.held ≡ q → busy m ≡ true
+kept-held : {kind : Kind} (m : Machine) (q : Option ℕ) (x y z : ℕ) (h : List (Happening kind)) → m.device.held ≡ q → busy m ≡ true
     → is_barred (control.held_begins q (rested m.device).phase) m.ledger ≡ false → Kept m h
     → Kept (held_effect q (lands m (rested m.device) x y z)) (takes_held q (finished x y z ∷ h) ++ finished x y z ∷ h)
 unfolding held_effect effect
-kept-held m Nothing x y z h e u f k =
-    subst (λ (d : Device). Kept (lands m d x y z) (finished x y z ∷ h)) (sym (rests-as m.device) ∙ ap (λ (q : Held). with_held q (rested m.device)) (sym (rested-held m.device ∙ e)))
+kept-held m None x y z h e u f k =
+    subst (λ (d : Device). Kept (lands m d x y z) (finished x y z ∷ h)) (sym (rests-as m.device) ∙ ap (λ (q : Option ℕ). with_held q (rested m.device)) (sym (rested-held m.device ∙ e)))
     (kept-finished m x y z h u k)
-kept-held m (Byte v) x y z h e u f k =
+kept-held m (Some v) x y z h e u f k =
     subst (λ (d : Device). Kept (effect (lands m d x y z) v) (takes (finished x y z ∷ h) v ++ finished x y z ∷ h)) (sym (rests-as m.device))
     (kept-effect (lands m (finishes m.device) x y z) v (finished x y z ∷ h) (finished-idle m.device)
     (rw (landed-begun m (finished_one m (data_bytes m.device.kind m.device.codes x y z)), ← rested-phase m.device) f) (kept-finished m x y z h u k))
@@ -258,8 +256,8 @@ kept-wake m y b h k =
     subst (λ (d : Device). Kept (with_device d (with_ledger (begun_if true m.ledger) m)) (began ∷ h)) (wakes-as m.device y)
     (kept-began m h (standing-idle m.device.phase y) (leb-false reg.most_begun m.ledger.begun b) k)
 
-kept_gives : {kind : Kind} (m : Machine) (i j : ℕ) → m.burst ≡ burst.Open i j → ltb reg.last_register j ≡ false → (h : List (Happening kind)) → Kept m h
-    → Kept (with_burst (burst.Open i (j + 1)) m) (gave (byte_given m).value ∷ h)
+kept_gives : {kind : Kind} (m : Machine) (i j : ℕ) → m.burst ≡ burst_at i j → ltb reg.last_register j ≡ false → (h : List (Happening kind)) → Kept m h
+    → Kept (with_burst (burst_at i (j + 1)) m) (gave (byte_given m).value ∷ h)
 kept_gives m i j e l h k = rw (gives-value m i j e l) (kept-gave m i j h e k)
 
 abbrev Keeps : Kind → Machine → Event → Outcome → Type 0

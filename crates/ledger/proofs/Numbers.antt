@@ -6,12 +6,10 @@ use mathlib.Core.List.{List}
 use native.Mathlib.Omega.{arith}
 use lib.Dec.{eqb, leb}
 use borrow.Author.Tests.{leb-true, le-leb, eqb-true, eq-eqb}
+use Rattle.std.specs.Prelude.{Option, None, Some}
 use Rattle.paper.specs.Registers as reg
 use Rattle.kinds.specs.declared.Kind.{Kind}
 use Rattle.kinds.specs.Chips.{facts, is_writable}
-use Rattle.machine.specs.declared.Held.{Held}
-use Rattle.machine.specs.declared.Held.TheVariants.{Nothing, Byte}
-use Rattle.machine.specs.declared.Burst.TheVariants as burst
 use Rattle.machine.specs.declared.Device.{Device}
 use Rattle.machine.specs.declared.Machine.{Machine}
 use Rattle.machine.specs.declared.Outcome.{Outcome}
@@ -19,7 +17,7 @@ use Rattle.machine.specs.declared.Event.{Event}
 use Rattle.machine.specs.State.{runs, sleeps, stands_by, is_held, is_open}
 use Rattle.machine.specs.Counts.{is_barred}
 use Rattle.machine.specs.Control as control
-use Rattle.machine.specs.Events.{may_write, may_finish, held_will_begin}
+use Rattle.machine.specs.Events.{may_write, may_finish, held_will_begin, burst_at}
 use Rattle.machine.specs.Event.{answer}
 use Rattle.machine.proofs.Walk
 use Rattle.machine.proofs.Walk.{Steps, Refuses, MayControl, walk}
@@ -32,9 +30,9 @@ use Rattle.ledger.proofs.Given.{Spans}
 use Rattle.ledger.proofs.Control.{runs-is, sleeps-is, stands-is, begins-is, held-begins-is, rested-phase, finished-idle}
 use Rattle.ledger.proofs.Kept.{Kept, tested}
 
-holds-is : (q : Held) → is_held q ≡ holds q
-holds-is Nothing = refl
-holds-is (Byte v) = refl
+holds-is : (q : Option ℕ) → is_held q ≡ holds q
+holds-is None = refl
+holds-is (Some v) = refl
 
 -- the test of a write, of the machine and of the history, by copying c and running r
 writes_as : (c r : Bool) → not c || r ≡ not (c && not r)
@@ -79,7 +77,7 @@ module _ {kind : Kind} (m : Machine) (h : List (Happening kind)) (k : Kept m h) 
   barred-held : is_barred (held_will_begin m.device) m.ledger ≡ held_begins (device_in h).held (finishes (device_in h)).phase && all_begun_in h
   barred-held = rw (rested-phase m.device, held-begins-is m.device.held (finishes m.device).phase (finished-idle m.device), all-begun, k.device-is)
 
-  pub address_is : (i j : ℕ) → m.burst ≡ burst.Open i j → j ≡ address_in h
+  pub address_is : (i j : ℕ) → m.burst ≡ burst_at i j → j ≡ address_in h
   address_is i j e = let s : Spans i j (opened_at h) (given_in h) = rw e at k.spanned in s.next-is
 
   may-write : may_write m.device ≡ may_write_in h

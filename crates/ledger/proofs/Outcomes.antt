@@ -7,13 +7,12 @@ use lib.Dec.{eqb}
 use Rattle.paper.specs.Numbers.{done}
 use Rattle.kinds.specs.declared.Kind.{Kind}
 use Rattle.kinds.specs.Chips.{facts}
-use Rattle.machine.specs.declared.Burst.TheVariants as burst
 use Rattle.machine.specs.declared.Machine.{Machine}
 use Rattle.machine.specs.declared.Outcome.{Outcome}
 use Rattle.machine.specs.declared.Event.{Event}
 use Rattle.machine.specs.declared.Event.TheVariants.{Power, Copied, Write, Finish, Wake, Open, Byte, Close}
 use Rattle.machine.specs.State.{is_open}
-use Rattle.machine.specs.Events.{answered}
+use Rattle.machine.specs.Events.{answered, burst_at}
 use Rattle.machine.specs.Event.{stepped}
 use Rattle.machine.proofs.Walk.{Steps, refuses-not-done, walk}
 use Rattle.ledger.specs.Happening.{Happening}
@@ -64,7 +63,7 @@ module _ {kind : Kind} (m : Machine) (h : List (Happening kind)) (k : Kept m h) 
   shown-is : is_open m.burst ≡ true → (book m).shown ≡ shown_by h
   shown-is o = k.right.shown-is ∙ rw (← k.right.open_is, o)
 
-  given_is : (i j : ℕ) → m.burst ≡ burst.Open i j → done ≡ number_in h Byte
+  given_is : (i j : ℕ) → m.burst ≡ burst_at i j → done ≡ number_in h Byte
       → register_in h j ≡ cond (eqb (number_in h Byte) done) (register_in h (address_in h)) 0
   given_is i j e n =
       ap (register_in h) (address_is m h k i j e)

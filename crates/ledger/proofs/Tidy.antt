@@ -2,10 +2,9 @@
 use Prim.Native.Nat.{ℕ}
 use mathlib.Core.Path.{◌≡◌, refl, sym, ap, ◌∙◌}
 use mathlib.Core.Bool.{Bool, true, false, true≢false}
+use Rattle.std.specs.Prelude.{Option, None}
 use Rattle.laws.specs.Choices.{pick}
-use Rattle.machine.specs.declared.Held.TheVariants.{Nothing}
-use Rattle.machine.specs.declared.Burst.{Burst}
-use Rattle.machine.specs.declared.Burst.TheVariants as burst
+use Rattle.machine.specs.declared.OpenBurst.{OpenBurst}
 use Rattle.machine.specs.declared.Conversion.{Conversion}
 use Rattle.machine.specs.declared.Device.{Device}
 use Rattle.machine.specs.declared.Ledger.{Ledger}
@@ -43,7 +42,7 @@ pub ended-begun : (m : Machine) → (ended m).ledger.begun ≡ m.ledger.begun
 unfolding showing waiting_shown
 ended-begun m = pick (λ (n : Machine). n.ledger.begun ≡ m.ledger.begun) (is_there m.waiting) (λ _. overwritten-begun (is_unread m.shown) m.ledger) (λ _. refl)
 
-pub tidy-lands : (m : Machine) (d : Device) (x y z : ℕ) → d.kind ≡ m.device.kind → nonzero m.ledger.begun ≡ true → d.held ≡ Nothing → Tidy m → Tidy (lands m d x y z)
+pub tidy-lands : (m : Machine) (d : Device) (x y z : ℕ) → d.kind ≡ m.device.kind → nonzero m.ledger.begun ≡ true → d.held ≡ None → Tidy m → Tidy (lands m d x y z)
 unfolding keeping showing
 tidy-lands m d x y z same one n t =
     pick (λ (n : Machine). Tidy (with_device d n)) (is_open m.burst)
@@ -62,13 +61,13 @@ tidy-lands m d x y z same one n t =
       none-held = λ _. n;
     })
 
-pub tidy-burst : (m : Machine) (b : Burst) → Tidy m → Tidy (with_burst b m)
+pub tidy-burst : (m : Machine) (b : Option OpenBurst) → Tidy m → Tidy (with_burst b m)
 tidy-burst m b t = record { small = t.small; none-shown = t.none-shown; none-waits = t.none-waits; unread-waits = t.unread-waits; none-held = t.none-held }
 
 pub tidy-ended : (m : Machine) → Tidy m → Tidy (ended m)
 unfolding showing waiting_shown
 tidy-ended m t =
-    pick (λ (n : Machine). Tidy (with_burst burst.Closed n)) (is_there m.waiting)
+    pick (λ (n : Machine). Tidy (with_burst None n)) (is_there m.waiting)
     (λ _. record {
       small = rw (overwritten-begun (is_unread m.shown) m.ledger) t.small;
       none-shown = t.none-waits;
@@ -76,7 +75,7 @@ tidy-ended m t =
       unread-waits = refl;
       none-held = t.none-held;
     })
-    (λ _. tidy-burst m burst.Closed t)
+    (λ _. tidy-burst m None t)
 
 pub tidy-delivering : (m : Machine) → Tidy m → Tidy (delivering m)
 unfolding delivering

@@ -6,6 +6,7 @@ use mathlib.Core.List.{List, ◌∷◌}
 use lib.Dec.{eqb}
 use lib.ListN.{length, take}
 use borrow.Author.Tests.{lt-ltb, lt-leb, ne_eqb, eq-eqb, eqb-true}
+use Rattle.std.specs.Prelude.{Option, None, Some}
 use Rattle.paper.specs.Numbers.{done, address_not_allowed, still_copying, wrong_phase, all_begun}
 use Rattle.paper.specs.Registers as reg
 use Rattle.kinds.specs.declared.Kind.{Kind}
@@ -13,10 +14,7 @@ use Rattle.kinds.specs.declared.Kind.TheVariants.{Bme280, Bmp280}
 use Rattle.kinds.specs.Chips.{facts}
 use Rattle.machine.specs.declared.Phase.{Phase}
 use Rattle.machine.specs.declared.Phase.TheVariants.{Sleep, Forced, Normal, Standby}
-use Rattle.machine.specs.declared.Held.{Held}
-use Rattle.machine.specs.declared.Held.TheVariants as held
-use Rattle.machine.specs.declared.Burst.{Burst}
-use Rattle.machine.specs.declared.Burst.TheVariants as burst
+use Rattle.machine.specs.declared.OpenBurst.{OpenBurst}
 use Rattle.machine.specs.declared.Device.{Device}
 use Rattle.machine.specs.declared.Machine.{Machine}
 use Rattle.machine.specs.declared.Outcome.{Outcome}
@@ -26,7 +24,7 @@ use Rattle.machine.specs.Counts.{is_barred, begun_if}
 use Rattle.machine.specs.Control.{phase_after, latched, controlled, effect, held_begins, held_effect}
 use Rattle.machine.specs.Data.{in_range, stored}
 use Rattle.machine.specs.Events.{answered, held_f4, taken_f4, written_f4, may_write, may_finish, rested, finished_one, showing, keeping, landed, converted, awake}
-use Rattle.machine.specs.Events.{is_whole, whole_closing, closing, written_to, closed}
+use Rattle.machine.specs.Events.{is_whole, whole_closing, closing, written_to, closed, burst_at}
 use Rattle.machine.specs.declared.Event.TheVariants.{Copied, Write, Finish, Wake, Open}
 use Rattle.machine.specs.Event.{next, after}
 use Rattle.machine.proofs.Bmp280.{rested-kind}
@@ -72,15 +70,15 @@ mode-runs p v z y =
     at false e = refl
 
 -- in the phase p, not copying, with no burst
-abbrev idling : Phase → Bool → Burst → Machine → Machine
+abbrev idling : Phase → Bool → Option OpenBurst → Machine → Machine
 idling p c b m = with_burst b (with_device (with_phase p (with_copying c m.device)) m)
 
-same-idling : (m : Machine) {p q : Phase} {c d : Bool} {b k : Burst} → p ≡ q → c ≡ d → b ≡ k → idling p c b m ≡ idling q d k m
+same-idling : (m : Machine) {p q : Phase} {c d : Bool} {b k : Option OpenBurst} → p ≡ q → c ≡ d → b ≡ k → idling p c b m ≡ idling q d k m
 same-idling m e f g = cc
 
 module _ (m : Machine) (t : Turn) (p : Phase) (idle : runs p ≡ false) where
   abbrev idler : Machine
-  idler = idling p false burst.Closed m
+  idler = idling p false None m
 
   abbrev f2-set : Machine
   f2-set = with_device (f2_by t idler.device) idler
@@ -100,32 +98,32 @@ module _ (m : Machine) (t : Turn) (p : Phase) (idle : runs p ≡ false) where
       ∙ ap (λ (b : Bool). with_device (controlled_by t idler.device) (with_ledger (begun_if b m.ledger) idler)) e
 
   write-takes : (b : Bool) → runs (phase_after p t.f4) ≡ b → is_barred b m.ledger ≡ false
-      → m.device.phase ≡ p → m.device.copying ≡ false → m.burst ≡ burst.Closed → after m (by_write t) ≡ taken b m
+      → m.device.phase ≡ p → m.device.copying ≡ false → m.burst ≡ None → after m (by_write t) ≡ taken b m
   write-takes b e free q c o =
       ap (λ (k : Machine). after k (by_write t)) (same-idling m q c o) ∙ idler-takes b e free ∙ sym (ap (taken b) (same-idling m q c o))
 
   -- F4 that begins a conversion, and F4 that begins none
   pub write-begins : runs (phase_after p t.f4) ≡ true → m.ledger.begun < reg.most_begun
-      → m.device.phase ≡ p → m.device.copying ≡ false → m.burst ≡ burst.Closed → after m (by_write t) ≡ begun m (controlled_by t m.device)
+      → m.device.phase ≡ p → m.device.copying ≡ false → m.burst ≡ None → after m (by_write t) ≡ begun m (controlled_by t m.device)
   write-begins e room = write-takes true e (lt-leb reg.most_begun m.ledger.begun room)
 
   pub write-latches : runs (phase_after p t.f4) ≡ false
-      → m.device.phase ≡ p → m.device.copying ≡ false → m.burst ≡ burst.Closed → after m (by_write t) ≡ with_device (controlled_by t m.device) m
+      → m.device.phase ≡ p → m.device.copying ≡ false → m.burst ≡ None → after m (by_write t) ≡ with_device (controlled_by t m.device) m
   write-latches e = write-takes false e refl
 
 -- F4 during a conversion is held
 module _ (m : Machine) (t : Turn) where
   abbrev pub holding : Machine
-  holding = with_device (with_held (held.Byte t.f4) (f2_by t m.device)) m
+  holding = with_device (with_held (Some t.f4) (f2_by t m.device)) m
 
-  abbrev holder : Held → Burst → Machine
+  abbrev holder : Option ℕ → Option OpenBurst → Machine
   holder q b = with_burst b (with_device (with_held q m.device) m)
 
-  same-holder : {p q : Held} {b k : Burst} → p ≡ q → b ≡ k → holder p b ≡ holder q k
+  same-holder : {p q : Option ℕ} {b k : Option OpenBurst} → p ≡ q → b ≡ k → holder p b ≡ holder q k
   same-holder e g = cc
 
   abbrev not-held : Machine
-  not-held = holder held.Nothing burst.Closed
+  not-held = holder None None
 
   abbrev held-f2 : Machine
   held-f2 = with_device (f2_by t not-held.device) not-held
@@ -134,7 +132,7 @@ module _ (m : Machine) (t : Turn) where
   may-write : runs m.device.phase ≡ true → not (may_write m.device) ≡ false
   may-write u = ap (λ (r : Bool). not (not m.device.copying || r)) u ∙ ap not (or-true (not m.device.copying))
 
-  pub write-holds : runs m.device.phase ≡ true → m.device.held ≡ held.Nothing → m.burst ≡ burst.Closed → after m (by_write t) ≡ holding
+  pub write-holds : runs m.device.phase ≡ true → m.device.held ≡ None → m.burst ≡ None → after m (by_write t) ≡ holding
   write-holds u n b = let humid = (facts m.device.kind).humidity in
       ap (λ (k : Machine). after k (by_write t)) (same-holder n b)
       ∙ ap (λ (o : Outcome). next (cond (not (humid && true)) (answered address_not_allowed not-held) o).machine (Write reg.ctrl_meas t.f4))
@@ -143,7 +141,7 @@ module _ (m : Machine) (t : Turn) where
       ∙ ap (λ (o : Outcome). o.machine)
       (passed (not (may_write m.device)) (answered still_copying held-f2) (written_f4 held-f2 t.f4) (may-write u)
       ∙ chosen (runs m.device.phase) (held_f4 held-f2 t.f4) (taken_f4 held-f2 t.f4) u)
-      ∙ ap (λ (k : Machine). with_device (with_held (held.Byte t.f4) (f2_by t k.device)) k) (sym (same-holder n b))
+      ∙ ap (λ (k : Machine). with_device (with_held (Some t.f4) (f2_by t k.device)) k) (sym (same-holder n b))
 
 pub wake-begins : (m : Machine) → m.device.phase ≡ Standby → m.ledger.begun < reg.most_begun → next m Wake ≡ awake m
 wake-begins m p room =
@@ -177,11 +175,11 @@ module _ (k : Machine) (t : Turn) where
   abbrev pub done-with : Machine
   done-with = with_device (rested m.device) (showing (finished_one m bytes) m)
 
-  pub lands-shown : m.burst ≡ burst.Closed → landed-with ≡ done-with
+  pub lands-shown : m.burst ≡ None → landed-with ≡ done-with
   lands-shown b = ap (with_device (rested m.device)) (passed (is_open m.burst) (keeping (finished_one m bytes) m) (showing (finished_one m bytes) m) (ap is_open b))
 
   -- and then what is held takes effect
-  finishes-with : {kind : Kind} → Fits kind t → runs m.device.phase ≡ true → (q : Held) → m.device.held ≡ q
+  finishes-with : {kind : Kind} → Fits kind t → runs m.device.phase ≡ true → (q : Option ℕ) → m.device.held ≡ q
       → is_barred (held_begins q (rested m.device).phase) m.ledger ≡ false
       → after k (finish t) ≡ held_effect q landed-with
   finishes-with f u q n free =
@@ -190,16 +188,16 @@ module _ (k : Machine) (t : Turn) where
       (passed (not (may_finish m.device)) (answered wrong_phase m) _ (ap not u)
       ∙ passed (not (in_range t.temperature t.pressure t.humidity)) _ _ (ap not (in-range t f))
       ∙ passed (is_barred (held_begins m.device.held (rested m.device).phase) m.ledger) _ (answered done (converted m bytes))
-      (ap (λ (q : Held). is_barred (held_begins q (rested m.device).phase) m.ledger) n ∙ free))
-      ∙ ap (λ (q : Held). held_effect q landed-with) n
+      (ap (λ (q : Option ℕ). is_barred (held_begins q (rested m.device).phase) m.ledger) n ∙ free))
+      ∙ ap (λ (q : Option ℕ). held_effect q landed-with) n
 
   -- a held F4, which begins a conversion or none
-  pub finish-takes : {kind : Kind} → Fits kind t → runs m.device.phase ≡ true → (v : ℕ) → m.device.held ≡ held.Byte v → (b : Bool) → runs (phase_after (rested m.device).phase v) ≡ b
+  pub finish-takes : {kind : Kind} → Fits kind t → runs m.device.phase ≡ true → (v : ℕ) → m.device.held ≡ Some v → (b : Bool) → runs (phase_after (rested m.device).phase v) ≡ b
       → m.ledger.begun < reg.most_begun → after k (finish t)
       ≡ with_device (controlled (rested m.device) v) (with_ledger (begun_if b landed-with.ledger) landed-with)
   unfolding effect held_effect
   finish-takes f u v n b e room =
-      finishes-with f u (held.Byte v) n (at (runs (phase_after (rested m.device).phase v)))
+      finishes-with f u (Some v) n (at (runs (phase_after (rested m.device).phase v)))
       ∙ ap (λ (b : Bool). with_device (controlled (rested m.device) v) (with_ledger (begun_if b landed-with.ledger) landed-with)) e
     where
       at : (b : Bool) → is_barred b m.ledger ≡ false
@@ -208,22 +206,22 @@ module _ (k : Machine) (t : Turn) where
 
   -- it has given all of its data bytes
   abbrev pub read-from : Kind → Machine
-  read-from kind = with_burst (burst.Open reg.first_data ((facts kind).last + 1)) done-with
+  read-from kind = with_burst (burst_at reg.first_data ((facts kind).last + 1)) done-with
 
-  reads : (kind : Kind) (k : Machine) → k.burst ≡ burst.Closed
-      → after k (Open reg.first_data ∷ given (facts kind).bytes) ≡ with_burst (burst.Open reg.first_data ((facts kind).last + 1)) k
-  reads Bme280 k e = ap (λ (q : Burst). after (with_burst q k) (Open reg.first_data ∷ given 8)) e
-  reads Bmp280 k e = ap (λ (q : Burst). after (with_burst q k) (Open reg.first_data ∷ given 6)) e
+  reads : (kind : Kind) (k : Machine) → k.burst ≡ None
+      → after k (Open reg.first_data ∷ given (facts kind).bytes) ≡ with_burst (burst_at reg.first_data ((facts kind).last + 1)) k
+  reads Bme280 k e = ap (λ (q : Option OpenBurst). after (with_burst q k) (Open reg.first_data ∷ given 8)) e
+  reads Bmp280 k e = ap (λ (q : Option OpenBurst). after (with_burst q k) (Open reg.first_data ∷ given 6)) e
 
-  all-given : (kind : Kind) → is_whole kind (burst.Open reg.first_data ((facts kind).last + 1)) ≡ true
+  all-given : (kind : Kind) → is_whole kind (burst_at reg.first_data ((facts kind).last + 1)) ≡ true
   all-given Bme280 = refl
   all-given Bmp280 = refl
 
   module _ (kind : Kind) (same : k.device.kind ≡ kind) (f : Fits kind t)
-      (u : runs m.device.phase ≡ true) (n : m.device.held ≡ held.Nothing) (b : m.burst ≡ burst.Closed) where
+      (u : runs m.device.phase ≡ true) (n : m.device.held ≡ None) (b : m.burst ≡ None) where
     finishes : after k (finish t) ≡ done-with
     unfolding held_effect
-    finishes = finishes-with f u held.Nothing n refl ∙ lands-shown b
+    finishes = finishes-with f u None n refl ∙ lands-shown b
 
     measures : after k (measured kind t) ≡ read-from kind
     unfolding showing
@@ -241,8 +239,8 @@ module _ (k : Machine) (t : Turn) where
         let bytes-now = (facts kind-now).bytes in
         passed (not (eqb (length t.lent) bytes-now)) _ _
         (ap not (eq-eqb (length t.lent) bytes-now (f.lends-all ∙ ap (λ (x : Kind). (facts x).bytes) (sym kind-is))))
-        ∙ chosen (is_whole kind-now (burst.Open reg.first_data ((facts kind).last + 1))) _ _
-        (subst (λ (x : Kind). is_whole x (burst.Open reg.first_data ((facts kind).last + 1)) ≡ true) (sym kind-is) (all-given kind))
+        ∙ chosen (is_whole kind-now (burst_at reg.first_data ((facts kind).last + 1))) _ _
+        (subst (λ (x : Kind). is_whole x (burst_at reg.first_data ((facts kind).last + 1)) ≡ true) (sym kind-is) (all-given kind))
 
     pub closes : closed (after k (measured kind t)) t.lent ≡ (whole_closing (read-from kind), take (facts kind).bytes bytes)
     unfolding showing

@@ -7,13 +7,12 @@ use native.Mathlib.Omega.{arith}
 use lib.Dec.{eqb}
 use lib.ListN.{length}
 use borrow.Author.Tests.{eq-eqb, ne_eqb}
+use Rattle.std.specs.Prelude.{None}
 use Rattle.laws.specs.Choices.{pick}
 use Rattle.paper.specs.Registers as reg
 use Rattle.kinds.specs.declared.Kind.{Kind}
 use Rattle.machine.specs.declared.Phase.{Phase}
 use Rattle.machine.specs.declared.Phase.TheVariants.{Sleep, Forced, Normal, Standby}
-use Rattle.machine.specs.declared.Held.TheVariants.{Nothing}
-use Rattle.machine.specs.declared.Burst.TheVariants.{Closed}
 use Rattle.machine.specs.declared.Codes.{Codes}
 use Rattle.machine.specs.declared.Device.{Device}
 use Rattle.machine.specs.declared.Ledger.{Ledger}
@@ -38,8 +37,8 @@ record Rests (kind : Kind) (p : Phase) (n : ℕ) (m : Machine) : Type 0 where
   pub kind-is : m.device.kind ≡ kind
   pub phase-is : m.device.phase ≡ p
   pub copying-is : m.device.copying ≡ false
-  pub held-is : m.device.held ≡ Nothing
-  pub none_open : m.burst ≡ Closed
+  pub held-is : m.device.held ≡ None
+  pub none_open : m.burst ≡ None
   pub none-waits : is_there m.waiting ≡ false
   pub none-unread : is_unread m.shown ≡ false
   pub ledger-is : m.ledger ≡ all_delivered n
@@ -48,8 +47,8 @@ record Rests (kind : Kind) (p : Phase) (n : ℕ) (m : Machine) : Type 0 where
 record Runs (kind : Kind) (n : ℕ) (m : Machine) : Type 0 where
   pub kind-is : m.device.kind ≡ kind
   pub runs-now : runs m.device.phase ≡ true
-  pub held-is : m.device.held ≡ Nothing
-  pub none_open : m.burst ≡ Closed
+  pub held-is : m.device.held ≡ None
+  pub none_open : m.burst ≡ None
   pub none-waits : is_there m.waiting ≡ false
   pub none-unread : is_unread m.shown ≡ false
   pub ledger-is : m.ledger ≡ begun_if true (all_delivered n)
@@ -64,7 +63,7 @@ module _ (kind : Kind) (n : ℕ) (l : n < reg.most_begun) (m : Machine) (t : Tur
   begun-is : m.ledger.begun ≡ n + 1
   begun-is = ap (λ (l : Ledger). l.begun) r.ledger-is ∙ omega arith
 
-  ends_as : ended kind m t ≡ with_burst Closed (delivering (read-from m t kind))
+  ends_as : ended kind m t ≡ with_burst None (delivering (read-from m t kind))
   ends_as = ap (λ (x : Outcome × List ℕ). x.0.machine) (closes m t kind r.kind-is f r.runs-now r.held-is r.none_open) ∙ closed_after kind m t r.none-waits
 
   codes-end : (ended kind m t).device.codes ≡ m.device.codes
@@ -84,7 +83,7 @@ module _ (kind : Kind) (n : ℕ) (l : n < reg.most_begun) (m : Machine) (t : Tur
     kind-is = rested-kind (uncopying m).device ∙ r.kind-is;
     phase-is = e;
     copying-is = pick (λ (d : Device). d.copying ≡ false) (is_forced m.device.phase) (λ _. refl) (λ _. refl);
-    held-is = pick (λ (d : Device). d.held ≡ Nothing) (is_forced m.device.phase) (λ _. r.held-is) (λ _. r.held-is);
+    held-is = pick (λ (d : Device). d.held ≡ None) (is_forced m.device.phase) (λ _. r.held-is) (λ _. r.held-is);
     none_open = refl;
     none-waits = r.none-waits;
     none-unread = and-not_self (is_there (read-from m t kind).shown);

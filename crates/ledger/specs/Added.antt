@@ -1,9 +1,7 @@
 -- What an event adds to the history. Of the machine nothing is looked at but what the event hands back: whether it was done, and the byte that it gave.
-use Rattle.std.specs.Prelude.{ℕ, cond, List, [], ◌∷◌, ◌++◌, eqb}
+use Rattle.std.specs.Prelude.{ℕ, cond, List, [], ◌∷◌, ◌++◌, eqb, Option, None, Some}
 use Rattle.paper.specs.Numbers.{done}
 use Rattle.kinds.specs.declared.Kind.{Kind}
-use Rattle.machine.specs.declared.Held.{Held}
-use Rattle.machine.specs.declared.Held.TheVariants as byte
 use Rattle.machine.specs.declared.Machine.{Machine}
 use Rattle.machine.specs.declared.Event.{Event}
 use Rattle.machine.specs.declared.Event.TheVariants.{Power, Copied, Write, Finish, Wake, Open, Byte, Close}
@@ -29,9 +27,9 @@ writes h a v =
     (writes_f4 h v)))
 
 -- once a conversion has finished, a held F4 takes effect
-abbrev pub takes_held : {kind : Kind} → Held → List (Happening kind) → List (Happening kind)
-takes_held byte.Nothing h = []
-takes_held (byte.Byte v) h = takes h v
+abbrev pub takes_held : {kind : Kind} → Option ℕ → List (Happening kind) → List (Happening kind)
+takes_held None h = []
+takes_held (Some v) h = takes h v
 
 -- of an event that is done after the history h, where a byte gave v: the latest first
 abbrev pub adds : {kind : Kind} → List (Happening kind) → Event → ℕ → List (Happening kind)

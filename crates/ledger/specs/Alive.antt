@@ -1,13 +1,12 @@
 -- A dead machine does not pass, though the sum alone would let it: whatever came before, the next conversion begins, finishes with its own bytes once
 -- copying has ended, is shown under its own number, and is counted; on both kinds of part, in forced mode and in normal mode, for any codes and counts
 -- (proofs/Alive.antt, proofs/Held.antt, proofs/Turns.antt).
-use Rattle.std.specs.Prelude.{ℕ, zero, suc, ◌+◌, ◌%◌, ◌<◌, ◌≡◌, true, false, List, [], ◌∷◌, ◌++◌, length, take}
+use Rattle.std.specs.Prelude.{ℕ, zero, suc, ◌+◌, ◌%◌, ◌<◌, ◌≡◌, true, false, List, [], ◌∷◌, ◌++◌, length, take, None}
 use Rattle.paper.specs.Numbers.{done}
 use Rattle.paper.specs.Registers as reg
 use Rattle.kinds.specs.declared.Kind.{Kind}
 use Rattle.kinds.specs.Chips.{facts}
 use Rattle.machine.specs.declared.Phase.TheVariants.{Sleep, Forced, Normal, Standby}
-use Rattle.machine.specs.declared.Held.TheVariants.{Nothing}
 use Rattle.machine.specs.declared.Codes.{Codes}
 use Rattle.machine.specs.declared.Outcome.{Outcome}
 use Rattle.machine.specs.declared.Ledger.{Ledger}
@@ -129,7 +128,7 @@ pub record LatchRunsTruly (kind : Kind) (m : Machine) (t : Turn) : Type 0 where
 -- one is running, none is held, no burst is open, and there is room for one more; the calibration may still be being copied or not
 pub record MayHold {kind : Kind} (h : List (Happening kind)) : Type 0 where
   pub runs-now : is_converting (device_in h).phase ≡ true
-  pub none-held : (device_in h).held ≡ Nothing
+  pub none-held : (device_in h).held ≡ None
   pub none_open : open_in h ≡ false
   pub has_room : begun_in h < 4294967295
 

@@ -1,11 +1,9 @@
 -- What each event hands back after a history: the number, by the paper's checks in their order, the register that a byte gives, and whether a close is whole.
-use Rattle.std.specs.Prelude.{ℕ, ◌+◌, ◌-◌, ◌*◌, Bool, true, false, not, cond, ◌&&◌, ◌||◌, List, [], ◌∷◌, eqb, leb, ltb, get_or, length}
+use Rattle.std.specs.Prelude.{ℕ, ◌+◌, ◌-◌, ◌*◌, Bool, true, false, not, cond, ◌&&◌, ◌||◌, List, [], ◌∷◌, eqb, leb, ltb, get_or, length, Option, None, Some}
 use Rattle.paper.specs.Numbers.{done, ignored, wrong_length, burst_is_open, address_not_allowed, still_copying, wrong_phase, out_of_range, all_begun}
 use Rattle.kinds.specs.declared.Kind.{Kind}
 use Rattle.kinds.specs.Chips.{facts}
 use Rattle.machine.specs.declared.Phase.{Phase}
-use Rattle.machine.specs.declared.Held.{Held}
-use Rattle.machine.specs.declared.Held.TheVariants as byte
 use Rattle.machine.specs.declared.Event.{Event}
 use Rattle.machine.specs.declared.Event.TheVariants.{Power, Copied, Write, Finish, Wake, Open, Byte, Close}
 use Rattle.ledger.specs.Happening.{Happening}
@@ -26,14 +24,14 @@ phase_in h = (device_in h).phase
 abbrev pub all_begun_in : {kind : Kind} → List (Happening kind) → Bool
 all_begun_in h = eqb (begun_in h) 4294967295
 
-abbrev pub holds : Held → Bool
-holds byte.Nothing = false
-holds (byte.Byte v) = true
+abbrev pub holds : Option ℕ → Bool
+holds None = false
+holds (Some v) = true
 
 -- what is held begins a conversion in the phase p
-abbrev pub held_begins : Held → Phase → Bool
-held_begins byte.Nothing p = false
-held_begins (byte.Byte v) p = begins_by p v
+abbrev pub held_begins : Option ℕ → Phase → Bool
+held_begins None p = false
+held_begins (Some v) p = begins_by p v
 
 -- E0 takes B6 alone, F5 is taken in sleep alone, and F4 is held during a conversion if none is held
 abbrev pub ignores_write : {kind : Kind} → List (Happening kind) → ℕ → ℕ → Bool

@@ -1,10 +1,9 @@
 -- The device as a history leaves it: what was written, and what of it has taken effect. Nothing here looks at a machine.
-use Rattle.std.specs.Prelude.{ℕ, ◌+◌, ◌-◌, ◌/◌, ◌%◌, Bool, true, false, cond, ◌&&◌, ◌||◌, List, [], ◌∷◌, eqb}
+use Rattle.std.specs.Prelude.{ℕ, ◌+◌, ◌-◌, ◌/◌, ◌%◌, Bool, true, false, cond, ◌&&◌, ◌||◌, List, [], ◌∷◌, eqb, None, Some}
 use Rattle.kinds.specs.declared.Kind.{Kind}
 use Rattle.kinds.specs.Chips.{facts}
 use Rattle.machine.specs.declared.Phase.{Phase}
 use Rattle.machine.specs.declared.Phase.TheVariants.{Sleep, Forced, Normal, Standby}
-use Rattle.machine.specs.declared.Held.TheVariants as byte
 use Rattle.machine.specs.declared.Codes.{Codes}
 use Rattle.machine.specs.declared.Device.{Device}
 use Rattle.ledger.specs.Happening.{Change, copied, wrote_f2, wrote_f5, held_f4, took_f4, Happening, began, finished, lost, opened, gave, closed, changed}
@@ -49,7 +48,7 @@ zero_codes = record { temperature = 0; pressure = 0; humidity = 0 }
 
 -- in the fresh state, and after a reset or power event
 abbrev pub freshly : Kind → Device
-freshly kind = record { kind = kind; phase = Sleep; copying = true; f2 = 0; f4 = 0; f5 = 0; held = byte.Nothing; codes = zero_codes }
+freshly kind = record { kind = kind; phase = Sleep; copying = true; f2 = 0; f4 = 0; f5 = 0; held = None; codes = zero_codes }
 
 -- temperature's code is in F4's upper three bits, pressure's in the three below, humidity's in F2; without humidity it is 0
 abbrev pub codes_by : Kind → ℕ → ℕ → Codes
@@ -61,10 +60,10 @@ abbrev pub changes : Change → Device → Device
 changes copied d = record { kind = d.kind; phase = d.phase; copying = false; f2 = d.f2; f4 = d.f4; f5 = d.f5; held = d.held; codes = d.codes }
 changes (wrote_f2 v) d = record { kind = d.kind; phase = d.phase; copying = d.copying; f2 = v % 8; f4 = d.f4; f5 = d.f5; held = d.held; codes = d.codes }
 changes (wrote_f5 v) d = record { kind = d.kind; phase = d.phase; copying = d.copying; f2 = d.f2; f4 = d.f4; f5 = v - v % 4 + v % 2; held = d.held; codes = d.codes }
-changes (held_f4 v) d = record { kind = d.kind; phase = d.phase; copying = d.copying; f2 = d.f2; f4 = d.f4; f5 = d.f5; held = byte.Byte v; codes = d.codes }
+changes (held_f4 v) d = record { kind = d.kind; phase = d.phase; copying = d.copying; f2 = d.f2; f4 = d.f4; f5 = d.f5; held = Some v; codes = d.codes }
 changes (took_f4 v) d =
     let p = cond (asks_normal v && is_standby d.phase) Standby Sleep in
-    record { kind = d.kind; phase = p; copying = d.copying; f2 = d.f2; f4 = v; f5 = d.f5; held = byte.Nothing; codes = codes_by d.kind v d.f2 }
+    record { kind = d.kind; phase = p; copying = d.copying; f2 = d.f2; f4 = v; f5 = d.f5; held = None; codes = codes_by d.kind v d.f2 }
 
 -- a conversion begins: normal in standby, and in sleep as F4 asks; the copying of the calibration starts
 abbrev pub begins : Device → Device
@@ -88,7 +87,7 @@ finishes d = let forced = is_forced d.phase in record {
   f2 = d.f2;
   f4 = cond forced (d.f4 - d.f4 % 4) d.f4;
   f5 = d.f5;
-  held = byte.Nothing;
+  held = None;
   codes = d.codes;
 }
 

@@ -6,12 +6,11 @@ use mathlib.Core.List.{List, [], ◌∷◌, ◌++◌}
 use native.Mathlib.Omega.{arith}
 use lib.Dec.{eqb, ltb}
 use borrow.Author.Tests.{eqb-true, ltb-true}
+use Rattle.std.specs.Prelude.{Option, None, Some}
 use Rattle.laws.specs.Choices.{pick}
 use Rattle.laws.specs.Tests.{both}
 use Rattle.paper.specs.Numbers.{done}
 use Rattle.kinds.specs.declared.Kind.{Kind}
-use Rattle.machine.specs.declared.Held.{Held}
-use Rattle.machine.specs.declared.Held.TheVariants as held
 use Rattle.machine.specs.declared.Machine.{Machine}
 use Rattle.machine.specs.declared.Event.{Event}
 use Rattle.machine.specs.declared.Event.TheVariants.{Power, Copied, Write, Finish, Wake, Open, Byte, Close}
@@ -47,9 +46,9 @@ module _ {kind : Kind} (h : List (Happening kind)) (s : Sound h) where
 
 -- a conversion finishes, and then what is held takes effect
 module _ {kind : Kind} (t p u : ℕ) (h : List (Happening kind)) (s : Sound (finished t p u ∷ h)) where
-  by-held : (q : Held) → HeldFits q → Sound ((takes_held q (finished t p u ∷ h) ++ finished t p u ∷ []) ++ h)
-  by-held held.Nothing b = s
-  by-held (held.Byte v) b =
+  by-held : (q : Option ℕ) → HeldFits q → Sound ((takes_held q (finished t p u ∷ h) ++ finished t p u ∷ []) ++ h)
+  by-held None b = s
+  by-held (Some v) b =
       pick (λ (l : List (Happening kind)). Sound ((l ++ finished t p u ∷ []) ++ h)) (begins_by (device_in (finished t p u ∷ h)).phase v) (λ _. (tt, (b, s))) (λ _. (b, s))
 
 good-finish : {kind : Kind} (t p u : ℕ) (h : List (Happening kind)) → number_in h (Finish t p u) ≡ 0 → Good (finished t p u) h

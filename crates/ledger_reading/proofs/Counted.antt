@@ -7,16 +7,15 @@ use lib.Dec.{eqb}
 use lib.ListN.{take}
 use borrow.Author.Tests.{le-leb}
 use Rattle.laws.specs.Choices.{pick}
+use Rattle.std.specs.Prelude.{Err}
+use Rattle.paper.specs.Answers.{missing}
 use Rattle.paper.specs.Numbers as no
 use Rattle.paper.specs.Registers as reg
 use Rattle.kinds.specs.declared.Kind.{Kind}
 use Rattle.kinds.specs.declared.Kind.TheVariants.{Bme280, Bmp280}
 use Rattle.kinds.specs.Chips.{facts}
 use Rattle.calibration.specs.declared.Words.{Words}
-use Rattle.formula.specs.declared.TemperatureAnswer.{TemperatureAnswer}
-use Rattle.formula.specs.declared.ChannelAnswer.{ChannelAnswer}
-use Rattle.formula.specs.declared.ChannelAnswer.TheVariants as channel
-use Rattle.formula.specs.Answers.{missing}
+use Rattle.formula.specs.Answers.{TemperatureAnswer, ChannelAnswer}
 use Rattle.formula_temperature.specs.Temperature.{temperature_of}
 use Rattle.data.specs.declared.Counts.{Counts}
 use Rattle.data.specs.Counts.{counts_of, laid}
@@ -84,7 +83,7 @@ module _ (words : Words) where
   channels kind c t p h = record {
     temperature = t;
     pressure = pressure_channel c.pressure t words.pressure p;
-    humidity = cond (facts kind).humidity (humidity_channel c.humidity t words.humidity h) (channel.Missing (missing no.skipped));
+    humidity = cond (facts kind).humidity (humidity_channel c.humidity t words.humidity h) (Err (missing no.skipped));
   }
 
   -- humidity, where there is any

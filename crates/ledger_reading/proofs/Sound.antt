@@ -1,17 +1,16 @@
 -- What holds of each happening in a history of the machine, and what it makes of the codes.
-use Prim.Native.Nat.{◌≤◌, ◌<◌}
+use Prim.Native.Nat.{ℕ, ◌≤◌, ◌<◌}
 use mathlib.Core.Path.{◌≡◌}
 use mathlib.Core.Bool.{true}
 use mathlib.Core.List.{List, [], ◌∷◌}
 use native.Mathlib.Omega.{arith}
+use Rattle.std.specs.Prelude.{Option, None, Some}
 use Rattle.laws.specs.Choices.{pick}
 use Rattle.data.specs.RoundTrip.{InRange}
 use Rattle.kinds.specs.declared.Kind.{Kind}
 use Rattle.kinds.specs.Chips.{facts}
 use Rattle.machine.specs.declared.Codes.{Codes}
 use Rattle.machine.specs.declared.Device.{Device}
-use Rattle.machine.specs.declared.Held.{Held}
-use Rattle.machine.specs.declared.Held.TheVariants as held
 use Rattle.ledger.specs.Happening.{Change, copied, wrote_f2, wrote_f5, held_f4, took_f4, Happening, began, finished, lost, opened, gave, closed, changed}
 use Rattle.ledger.specs.Device.{is_converting, codes_by, changes, device_in}
 use Rattle.ledger.specs.History.{codes_in}
@@ -45,9 +44,9 @@ pub record CodesFit (c : Codes) : Type 0 where
   pub pressure : c.pressure ≤ 7
   pub humidity : c.humidity ≤ 7
 
-abbrev pub HeldFits : Held → Type 0
-HeldFits held.Nothing = Unit {0}
-HeldFits (held.Byte v) = v < 256
+abbrev pub HeldFits : Option ℕ → Type 0
+HeldFits None = Unit {0}
+HeldFits (Some v) = v < 256
 
 pub record DeviceFits (d : Device) : Type 0 where
   pub f2 : d.f2 ≤ 7

@@ -6,13 +6,12 @@ use mathlib.Core.List.{List, [], ◌∷◌}
 use native.Mathlib.Omega.{arith}
 use lib.ListN.{length, take}
 use borrow.Author.Tests.{eq-eqb, ne_eqb}
+use Rattle.std.specs.Prelude.{Ok}
 use Rattle.paper.specs.Registers as reg
 use Rattle.calibration.specs.declared.Words.{Words}
-use Rattle.calibration.specs.declared.Calibration.TheVariants as blocks
 use Rattle.calibration.specs.Calibration.{words_of, calibrated}
 use Rattle.data.specs.declared.Counts.{Counts}
 use Rattle.data.specs.Counts.{counts_of}
-use Rattle.compensation.specs.declared.Answer.TheVariants.{Done}
 use Rattle.compensation.specs.declared.Reading.{Reading}
 use Rattle.compensation.specs.Compensation.{compensated_words, compensated}
 use Rattle.compensation_kinds.specs.Kinds.{reading_by, compensated_by}
@@ -86,11 +85,11 @@ module _ {kind : Kind} (c : Outcome) (left : List ℕ) (h : List (Happening kind
   -- with blocks and bytes of the part's lengths
   by_blocks : (first second : List ℕ) → length first ≡ (facts kind).one → length second ≡ (facts kind).two
       → compensated_by kind first second left c.codes.temperature c.codes.pressure c.codes.humidity
-      ≡ Done (meant kind (words_of first second) (finished_with h c.number) c.codes)
+      ≡ Ok (meant kind (words_of first second) (finished_with h c.number) c.codes)
   unfolding compensated_by
   by_blocks first second l m =
       rw (eq-eqb (length first) (facts kind).one l, eq-eqb (length second) (facts kind).two m, eq-eqb (length left) (facts kind).bytes s.length-is, are-codes)
-      (ap Done (by-words (words_of first second)))
+      (ap Ok (by-words (words_of first second)))
 
   joined : ReadingIsTrue c left h
   joined = record {
@@ -111,13 +110,13 @@ reading-is-true kind es b lent w =
 
 module _ (c : Outcome) (left : List ℕ) (h : List (Happening Bme280)) (s : Shows c left h) (r : ReadingIsTrue c left h) where
   of_words : (words : Words) → compensated_words words left c.codes.temperature c.codes.pressure c.codes.humidity
-      ≡ Done (meant Bme280 words (finished_with h c.number) c.codes)
+      ≡ Ok (meant Bme280 words (finished_with h c.number) c.codes)
   unfolding compensated_words
-  of_words words = rw r.are-codes (ap Done (r.by-words words))
+  of_words words = rw r.are-codes (ap Ok (r.by-words words))
 
-  of_blocks : (first second : List ℕ) (words : Words) → calibrated first second ≡ blocks.Known words
+  of_blocks : (first second : List ℕ) (words : Words) → calibrated first second ≡ Ok words
       → compensated first second left c.codes.temperature c.codes.pressure c.codes.humidity
-      ≡ Done (meant Bme280 words (finished_with h c.number) c.codes)
+      ≡ Ok (meant Bme280 words (finished_with h c.number) c.codes)
   unfolding compensated
   of_blocks first second words e = rw (e, eq-eqb (length left) reg.data_length s.length-is) (of_words words)
 

@@ -1,16 +1,14 @@
 -- What compensation makes of a whole close's bytes and codes is what the formulas make of the counts that were handed to that conversion's finish, each skipped
 -- channel 10. It holds for both kinds of part, after every list of events from the fresh state, refused ones included (proofs/Theorem.antt).
-use Rattle.std.specs.Prelude.{ℕ, suc, ◌<◌, ◌≡◌, true, cond, List, [], ◌∷◌, eqb, length}
+use Rattle.std.specs.Prelude.{ℕ, suc, ◌<◌, ◌≡◌, true, cond, List, [], ◌∷◌, eqb, length, Ok}
 use Rattle.paper.specs.Registers as reg
 use Rattle.kinds.specs.declared.Kind.{Kind}
 use Rattle.kinds.specs.declared.Kind.TheVariants.{Bme280}
 use Rattle.kinds.specs.Chips.{facts}
 use Rattle.calibration.specs.declared.Words.{Words}
-use Rattle.calibration.specs.declared.Calibration.TheVariants.{Known}
 use Rattle.calibration.specs.Calibration.{words_of, calibrated}
 use Rattle.data.specs.declared.Counts.{Counts}
 use Rattle.data.specs.Counts.{counts_of}
-use Rattle.compensation.specs.declared.Answer.TheVariants.{Done}
 use Rattle.compensation.specs.Compensation.{reading, compensated_words, compensated}
 use Rattle.compensation_kinds.specs.Kinds.{reading_by, compensated_by}
 use Rattle.machine.specs.declared.Codes.{Codes}
@@ -69,13 +67,13 @@ pub record ReadingIsTrue {kind : Kind} (c : Outcome) (left : List ℕ) (h : List
       ≡ reading_by kind words (finished_with h c.number) k.temperature k.pressure k.humidity
   pub by_blocks : (one two : List ℕ) → length one ≡ (facts kind).one → length two ≡ (facts kind).two → let k = c.codes in
       compensated_by kind one two left k.temperature k.pressure k.humidity
-      ≡ Done (reading_by kind (words_of one two) (finished_with h c.number) k.temperature k.pressure k.humidity)
+      ≡ Ok (reading_by kind (words_of one two) (finished_with h c.number) k.temperature k.pressure k.humidity)
 
 -- of a BME280, by the calls that know no kind
 pub record Bme280IsTrue (c : Outcome) (left : List ℕ) (h : List (Happening Bme280)) : Type 0 where
   pub by-words : (words : Words) → let k = c.codes in
       compensated_words words left k.temperature k.pressure k.humidity
-      ≡ Done (reading words (finished_with h c.number) k.temperature k.pressure k.humidity)
-  pub by_blocks : (one two : List ℕ) (words : Words) → calibrated one two ≡ Known words → let k = c.codes in
+      ≡ Ok (reading words (finished_with h c.number) k.temperature k.pressure k.humidity)
+  pub by_blocks : (one two : List ℕ) (words : Words) → calibrated one two ≡ Ok words → let k = c.codes in
       compensated one two left k.temperature k.pressure k.humidity
-      ≡ Done (reading words (finished_with h c.number) k.temperature k.pressure k.humidity)
+      ≡ Ok (reading words (finished_with h c.number) k.temperature k.pressure k.humidity)

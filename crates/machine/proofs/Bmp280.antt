@@ -5,13 +5,12 @@ use mathlib.Core.Bool.{true, false, not, true≢false}
 use native.Mathlib.Omega.{arith}
 use lib.Dec.{eqb}
 use borrow.Author.Tests.{ne_eqb, lt-ltb, eqb-true, not-true, not-false}
+use Rattle.std.specs.Prelude.{Option, None, Some}
 use Rattle.laws.specs.Choices.{pick}
 use Rattle.paper.specs.Numbers.{wrong_length, address_not_allowed}
 use Rattle.paper.specs.Registers as reg
 use Rattle.kinds.specs.declared.Kind.TheVariants.{Bmp280}
 use Rattle.kinds.specs.Chips.{facts}
-use Rattle.machine.specs.declared.Held.{Held}
-use Rattle.machine.specs.declared.Held.TheVariants.{Nothing, Byte}
 use Rattle.machine.specs.declared.Device.{Device}
 use Rattle.machine.specs.declared.Machine.{Machine}
 use Rattle.machine.specs.declared.Outcome.{Outcome}
@@ -31,10 +30,10 @@ Stays m e o = o.machine.device.kind ≡ m.device.kind
 pub rested-kind : (d : Device) → (rested d).kind ≡ d.kind
 rested-kind d = pick (λ (x : Device). x.kind ≡ d.kind) (is_forced d.phase) (λ _. refl) (λ _. refl)
 
-takes : (h : Held) (m : Machine) → (held_effect h m).device.kind ≡ m.device.kind
+takes : (h : Option ℕ) (m : Machine) → (held_effect h m).device.kind ≡ m.device.kind
 unfolding effect held_effect
-takes Nothing m = refl
-takes (Byte v) m = refl
+takes None m = refl
+takes (Some v) m = refl
 
 ends : (m : Machine) → (ended m).device.kind ≡ m.device.kind
 unfolding showing waiting_shown

@@ -3,12 +3,10 @@ use Prim.Native.Nat.{ℕ}
 use mathlib.Core.Path.{◌≡◌, refl, ◌∙◌}
 use mathlib.Core.List.{List, [], ◌∷◌}
 use lib.ListN.{drop}
+use Rattle.std.specs.Prelude.{Option, None, Some}
 use Rattle.laws.specs.Choices.{pick}
 use Rattle.kinds.specs.declared.Kind.{Kind}
 use Rattle.kinds.specs.declared.Kind.TheVariants.{Bmp280}
-use Rattle.machine.specs.declared.Held.{Held}
-use Rattle.machine.specs.declared.Held.TheVariants.{Nothing, Byte}
-use Rattle.machine.specs.declared.Burst.TheVariants.{Closed}
 use Rattle.machine.specs.declared.Conversion.{Conversion}
 use Rattle.machine.specs.declared.Device.{Device}
 use Rattle.machine.specs.declared.Machine.{Machine}
@@ -47,10 +45,10 @@ zero-effect : (m : Machine) (v : ℕ) → Zero m → Zero (effect m v)
 unfolding effect
 zero-effect m v z = record { kind-is = z.kind-is; latched-is = rw z.kind-is; shown-is = z.shown-is; waiting-is = z.waiting-is }
 
-zero_held : (h : Held) (m : Machine) → Zero m → Zero (held_effect h m)
+zero_held : (h : Option ℕ) (m : Machine) → Zero m → Zero (held_effect h m)
 unfolding held_effect
-zero_held Nothing m z = z
-zero_held (Byte v) m z = zero-effect m v z
+zero_held None m z = z
+zero_held (Some v) m z = zero-effect m v z
 
 stored-zero : (d : Device) (t p h : ℕ) → d.kind ≡ Bmp280 → drop 6 (stored d t p h) ≡ 0 ∷ 0 ∷ []
 unfolding stored
@@ -81,7 +79,7 @@ zero-delivering m z = record {
 zero_ended : (m : Machine) → Zero m → Zero (ended m)
 unfolding showing waiting_shown
 zero_ended m z =
-    pick (λ (x : Machine). Zero (with_burst Closed x)) (is_there m.waiting)
+    pick (λ (x : Machine). Zero (with_burst None x)) (is_there m.waiting)
     (λ _. record { kind-is = z.kind-is; latched-is = z.latched-is; shown-is = z.waiting-is; waiting-is = none_is m.device.kind z.kind-is })
     (λ _. like m _ refl refl refl refl z)
 

@@ -5,15 +5,14 @@ use mathlib.Core.Path.{◌≡◌, refl, sym, subst}
 use mathlib.Core.Bool.{Bool, true, false, not, ◌&&◌, ◌||◌, false≢true}
 use lib.Dec.{eqb, ltb}
 use borrow.Author.Tests.{eqb-true, not-true, not-false}
+use Rattle.std.specs.Prelude.{Option, None, Some}
 use Rattle.laws.specs.Choices.{pick}
 use Rattle.laws.specs.Tests.{both}
 use Rattle.paper.specs.Numbers.{done, ignored, wrong_length, burst_is_open, address_not_allowed, still_copying, wrong_phase, out_of_range, all_begun}
 use Rattle.paper.specs.Registers as reg
 use Rattle.kinds.specs.declared.Kind.{Kind}
 use Rattle.kinds.specs.Chips.{facts, is_writable}
-use Rattle.machine.specs.declared.Held.TheVariants as held
-use Rattle.machine.specs.declared.Burst.{Burst}
-use Rattle.machine.specs.declared.Burst.TheVariants as burst
+use Rattle.machine.specs.declared.OpenBurst.{OpenBurst}
 use Rattle.machine.specs.declared.Machine.{Machine}
 use Rattle.machine.specs.declared.Event.{Event}
 use Rattle.machine.specs.declared.Event.TheVariants.{Power, Copied, Write, Finish, Wake, Open, Byte, Close}
@@ -52,7 +51,7 @@ pub data Refuses (m : Machine) : Event → ℕ → Type 0 where
   open-in-burst : (a : ℕ) → is_open m.burst ≡ true → Refuses m (Open a) burst_is_open
   open-elsewhere : (a : ℕ) → is_open m.burst ≡ false → reg.is_readable a ≡ false → Refuses m (Open a) address_not_allowed
   byte-without-burst : is_open m.burst ≡ false → Refuses m Byte wrong_phase
-  byte-past-last : (first at : ℕ) → m.burst ≡ burst.Open first at → ltb reg.last_register at ≡ true → Refuses m Byte address_not_allowed
+  byte-past-last : (first at : ℕ) → m.burst ≡ ev.burst_at first at → ltb reg.last_register at ≡ true → Refuses m Byte address_not_allowed
   close-without-burst : (n : ℕ) → is_open m.burst ≡ false → Refuses m (Close n) wrong_phase
   close-wrong-length : (n : ℕ) → is_open m.burst ≡ true → eqb n (facts m.device.kind).bytes ≡ false → Refuses m (Close n) wrong_length
 
@@ -88,15 +87,15 @@ pub record Steps (P : Machine → Event → Outcome → Type 0) : Type 0 where
   pub writes-f5 : (m : Machine) (v : ℕ) → MayControl m → sleeps m.device.phase ≡ true
       → P m (Write reg.config v) (ev.answered done (with_device (with_f5 (v / 4 * 4 + v % 2) m.device) m))
   pub holds-f4 : (m : Machine) (v : ℕ) → MayControl m → runs m.device.phase ≡ true → is_held m.device.held ≡ false
-      → P m (Write reg.ctrl_meas v) (ev.answered done (with_device (with_held (held.Byte v) m.device) m))
+      → P m (Write reg.ctrl_meas v) (ev.answered done (with_device (with_held (Some v) m.device) m))
   pub takes-f4 : (m : Machine) (v : ℕ) → MayControl m → runs m.device.phase ≡ false → is_barred (begins m.device.phase v) m.ledger ≡ false
       → P m (Write reg.ctrl_meas v) (ev.answered done (effect m v))
   pub finishes : (m : Machine) (t p h : ℕ) → ev.may_finish m.device ≡ true → in_range t p h ≡ true → is_barred (ev.held_will_begin m.device) m.ledger ≡ false
       → P m (Finish t p h) (ev.answered done (ev.converted m (stored m.device t p h)))
   pub wakes : (m : Machine) → stands_by m.device.phase ≡ true → is_barred true m.ledger ≡ false → P m Wake (ev.answered done (ev.awake m))
-  pub opens : (m : Machine) (a : ℕ) → is_open m.burst ≡ false → reg.is_readable a ≡ true → P m (Open a) (ev.answered done (with_burst (burst.Open a a) m))
-  pub gives : (m : Machine) (first at : ℕ) → m.burst ≡ burst.Open first at → ltb reg.last_register at ≡ false
-      → P m Byte (ev.given (register at m) (with_burst (burst.Open first (at + 1)) m))
+  pub opens : (m : Machine) (a : ℕ) → is_open m.burst ≡ false → reg.is_readable a ≡ true → P m (Open a) (ev.answered done (with_burst (ev.burst_at a a) m))
+  pub gives : (m : Machine) (first at : ℕ) → m.burst ≡ ev.burst_at first at → ltb reg.last_register at ≡ false
+      → P m Byte (ev.given (register at m) (with_burst (ev.burst_at first (at + 1)) m))
   pub ends-whole : (m : Machine) → is_open m.burst ≡ true → ev.is_whole m.device.kind m.burst ≡ true → P m (Close (facts m.device.kind).bytes) (ev.whole_closing m)
   pub ends-partial : (m : Machine) → is_open m.burst ≡ true → ev.is_whole m.device.kind m.burst ≡ false → P m (Close (facts m.device.kind).bytes) (ev.answered done (ev.ended m))
 
@@ -180,10 +179,10 @@ module _ (P : Machine → Event → Outcome → Type 0) (s : Steps P) (m : Machi
       pick Q (is_open m.burst) (λ o. no (open-in-burst a o)) λ o.
       pick Q (not (reg.is_readable a)) (λ r. no (open-elsewhere a o (not-true (reg.is_readable a) r))) (λ r. s.opens m a o (not-false (reg.is_readable a) r))
 
-  by_byte : (b : Burst) → m.burst ≡ b → P m Byte (ev.byte_of b m)
-  by_byte burst.Closed e = no (byte-without-burst (rw e))
-  by_byte (burst.Open first at) e =
-      pick (P m Byte) (ltb reg.last_register at) (λ l. no (byte-past-last first at e l)) (s.gives m first at e)
+  by_byte : (b : Option OpenBurst) → m.burst ≡ b → P m Byte (ev.byte_of b m)
+  by_byte None e = no (byte-without-burst (rw e))
+  by_byte (Some b) e =
+      pick (P m Byte) (ltb reg.last_register b.next) (λ l. no (byte-past-last b.first b.next e l)) (s.gives m b.first b.next e)
 
   by-close : (n : ℕ) → P m (Close n) (ev.closing m n)
   by-close n =

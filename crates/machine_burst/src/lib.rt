@@ -1,11 +1,10 @@
 // The three events of a burst: open, byte and close.
 #![tactic(auto)]
 
-ghost use Rattle.std.specs.Prelude.{◌≡◌, ◌≤◌, length, take};
-ghost use Rattle.paper.specs.Registers as reg;
+ghost use Rattle.std.specs.Prelude.{◌≡◌};
 ghost use Rattle.machine.specs.Events as ev;
 
-use machine::{Burst, Machine, Outcome};
+use machine::{Machine, OpenBurst, Outcome};
 use machine_state::answer;
 
 mod reading; // what byte gives, and how close ends a burst
@@ -14,23 +13,25 @@ mod reading; // what byte gives, and how close ends a burst
 pub fn open(m: Machine, address: u8) -> Outcome
     ensures { result ≡ ev.opened m address }
 {
-    let burst = m.burst;
-    if machine_state::is_open(burst) {
+    if machine_state::is_open(m.burst) {
         return answer(paper::BURST_IS_OPEN, m);
     }
     if !paper::is_readable(address) {
         return answer(paper::ADDRESS_NOT_ALLOWED, m);
     }
     let at = address as u16;
-    answer(paper::DONE, reading::with_burst(Burst::Open(at, at), m))
+    let burst = Some(OpenBurst {
+        first: at,
+        next: at,
+    });
+    answer(paper::DONE, Machine { burst, ..m })
 }
 
 // The open burst gives its next register.
 pub fn byte(m: Machine) -> Outcome
     ensures { result ≡ ev.byte_given m }
 {
-    let burst = m.burst;
-    reading::give(burst, m)
+    reading::give(m.burst, m)
 }
 
 // The open burst is closed, by the length of the buffer that is lent.
@@ -38,17 +39,13 @@ pub fn byte(m: Machine) -> Outcome
 pub fn close_by_length(m: Machine, length: usize) -> Outcome
     ensures { result ≡ ev.closing m length }
 {
-    let burst = m.burst;
-    if !machine_state::is_open(burst) {
+    if !machine_state::is_open(m.burst) {
         return answer(paper::WRONG_PHASE, m);
     }
-    let device = m.device;
-    let kind = device.kind;
-    let chip = kinds::facts(kind);
-    if length != chip.bytes {
+    if length != kinds::facts(m.device.kind).bytes {
         return answer(paper::WRONG_LENGTH, m);
     }
-    if reading::is_whole(kind, burst) {
+    if reading::is_whole(m.device.kind, m.burst) {
         return reading::close_whole(m);
     }
     answer(paper::DONE, reading::end(m))
@@ -62,20 +59,7 @@ pub fn close(m: Machine, lent: &mut [u8]) -> Outcome
     let closing = close_by_length(m, lent.len());
     if closing.whole {
         let bytes = closing.bytes;
-        lay_over(lent, bytes);
-        return closing;
+        lent.copy_from_slice(&bytes[..lent.len()]);
     }
     closing
-}
-
-// The bytes are laid over a buffer of eight or fewer.
-fn lay_over(lent: &mut [u8], bytes: [u8; 8])
-    requires { length lent.old ≤ reg.data_length }
-    ensures { lent.new ≡ take (length lent.old) bytes }
-{
-    let mut i: usize = 0;
-    while i < lent.len() {
-        lent[i] = bytes[i];
-        i += 1;
-    }
 }

@@ -1,61 +1,46 @@
 // Bursts: what byte gives, and how close ends one.
 ghost use Rattle.std.specs.Prelude.{◌≡◌};
 ghost use Rattle.machine.specs.Events as ev;
-ghost use Rattle.machine.specs.Fields as fields;
 
 use kinds::Kind;
-use machine::{Burst, Machine, Outcome};
+use machine::{Machine, OpenBurst, Outcome};
 use machine_state::answer;
 
-// The machine with another burst.
-pub fn with_burst(burst: Burst, m: Machine) -> Machine
-    ensures { result ≡ fields.with_burst burst m }
+// The next register of the burst b.
+fn give_next(b: OpenBurst, m: Machine) -> Outcome
+    ensures { result ≡ ev.byte_at b.first b.next m }
 {
-    let device = m.device;
-    let shown = m.shown;
-    let waiting = m.waiting;
-    let ledger = m.ledger;
-    Machine {
-        device: device,
-        burst: burst,
-        shown: shown,
-        waiting: waiting,
-        ledger: ledger,
-    }
-}
-
-// The next register of a burst that was opened at first.
-fn give_at(first: u16, next: u16, m: Machine) -> Outcome
-    ensures { result ≡ ev.byte_at first next m }
-{
-    if (paper::LAST_REGISTER as u16) < next {
+    if (paper::LAST_REGISTER as u16) < b.next {
         return answer(paper::ADDRESS_NOT_ALLOWED, m);
     }
-    let address = next as u8;
-    let mut o = answer(paper::DONE, with_burst(Burst::Open(first, next + 1), m));
-    o.value = machine_registers::register(address, m);
-    o
+    let burst = Some(OpenBurst {
+        next: b.next + 1,
+        ..b
+    });
+    Outcome {
+        value: machine_registers::register(b.next as u8, m),
+        ..answer(paper::DONE, Machine { burst, ..m })
+    }
 }
 
 // The next register of a burst, if it is open.
-pub fn give(burst: Burst, m: Machine) -> Outcome
+pub fn give(burst: Option<OpenBurst>, m: Machine) -> Outcome
     ensures { result ≡ ev.byte_of burst m }
 {
     match burst {
-        Burst::Closed => answer(paper::WRONG_PHASE, m),
-        Burst::Open(first, next) => give_at(first, next, m),
+        None => answer(paper::WRONG_PHASE, m),
+        Some(b) => give_next(b, m),
     }
 }
 
 // Whether all of F7 to the part's last data address were given.
-pub fn is_whole(kind: Kind, b: Burst) -> bool
-    ensures { result ≡ ev.is_whole kind b }
+pub fn is_whole(kind: Kind, burst: Option<OpenBurst>) -> bool
+    ensures { result ≡ ev.is_whole kind burst }
 {
-    let chip = kinds::facts(kind);
-    match b {
-        Burst::Closed => false,
-        Burst::Open(first, next) => (first <= paper::FIRST_DATA as u16)
-            & ((chip.last as u16) < next),
+    match burst {
+        None => false,
+        Some(b) => (b.first <= paper::FIRST_DATA as u16)
+            & ((kinds::facts(kind).last as u16) < b.next),
     }
 }
 
@@ -63,7 +48,10 @@ pub fn is_whole(kind: Kind, b: Burst) -> bool
 pub fn end(m: Machine) -> Machine
     ensures { result ≡ ev.ended m }
 {
-    with_burst(Burst::Closed, machine_conversion::show_waiting(m))
+    Machine {
+        burst: None,
+        ..machine_conversion::show_waiting(m)
+    }
 }
 
 // The answer of a whole burst, which delivers what it showed.
@@ -71,16 +59,15 @@ pub fn close_whole(m: Machine) -> Outcome
     ensures { result ≡ ev.whole_closing m }
 {
     let shown = m.shown;
-    let codes = shown.codes;
     let bytes = shown.bytes;
     Outcome {
         answer: paper::DONE,
         value: 0,
         whole: true,
         number: shown.number,
-        codes: codes,
+        codes: shown.codes,
         delivered: shown.delivered,
-        bytes: bytes,
+        bytes,
         machine: end(machine_conversion::deliver(m)),
     }
 }

@@ -4,22 +4,17 @@
 ghost use Rattle.std.specs.Prelude.{◌≡◌};
 ghost use Rattle.machine.specs.Control as control;
 
-use machine::{Codes, Device, Held, Machine, Phase};
+use machine::{Codes, Device, Machine, Phase};
 
 // The phase after F4 has taken effect, by its mode.
 fn phase_after(p: Phase, f4: u8) -> Phase
     ensures { result ≡ control.phase_after p f4 }
 {
-    if f4 % 4 == 0 {
-        return Phase::Sleep;
-    }
-    if f4 % 4 != 3 {
-        return Phase::Forced;
-    }
-    if machine_state::is_in_standby(p) {
-        Phase::Standby
-    } else {
-        Phase::Normal
+    match f4 % 4 {
+        0 => Phase::Sleep,
+        3 if p == Phase::Standby => Phase::Standby,
+        3 => Phase::Normal,
+        _ => Phase::Forced,
     }
 }
 
@@ -34,9 +29,11 @@ pub fn begins(p: Phase, f4: u8) -> bool
 pub fn enter(phase: Phase, d: Device) -> Device
     ensures { result ≡ control.entered phase d }
 {
-    let mut e = d;
-    e.copying = machine_state::is_running(phase) | d.copying;
-    machine_state::with_phase(phase, e)
+    Device {
+        phase,
+        copying: machine_state::is_running(phase) | d.copying,
+        ..d
+    }
 }
 
 // The oversampling codes of F4, humidity's from F2 where the part has it.
@@ -54,44 +51,44 @@ fn latch(d: Device, f4: u8) -> Codes
 fn set_control(d: Device, f4: u8) -> Device
     ensures { result ≡ control.controlled d f4 }
 {
-    let phase = d.phase;
-    let mut e = d;
-    e.f4 = f4;
-    e.codes = latch(d, f4);
-    enter(
-        phase_after(phase, f4),
-        machine_state::with_held(Held::Nothing, e),
-    )
+    let latched = Device {
+        f4,
+        held: None,
+        codes: latch(d, f4),
+        ..d
+    };
+    enter(phase_after(d.phase, f4), latched)
 }
 
 // F4 takes effect, and a conversion that begins is counted.
+#[tactic(auto, unfolding(machine::specs::Control::effect))]
 pub fn take_effect(m: Machine, f4: u8) -> Machine
     ensures { result ≡ control.effect m f4 }
 {
-    let device = m.device;
-    let phase = device.phase;
-    let mut n = m;
-    n.device = set_control(device, f4);
-    n.ledger = machine_counts::count_begun(begins(phase, f4), m.ledger);
-    n
+    Machine {
+        device: set_control(m.device, f4),
+        ledger: machine_counts::count_begun(begins(m.device.phase, f4), m.ledger),
+        ..m
+    }
 }
 
 // Whether a held F4 begins a conversion.
-pub fn held_begins(h: Held, p: Phase) -> bool
+pub fn held_begins(h: Option<u8>, p: Phase) -> bool
     ensures { result ≡ control.held_begins h p }
 {
     match h {
-        Held::Nothing => false,
-        Held::Byte(f4) => begins(p, f4),
+        None => false,
+        Some(f4) => begins(p, f4),
     }
 }
 
 // A held F4 takes effect.
-pub fn take_held(h: Held, m: Machine) -> Machine
+#[tactic(auto, unfolding(machine::specs::Control::held_effect))]
+pub fn take_held(h: Option<u8>, m: Machine) -> Machine
     ensures { result ≡ control.held_effect h m }
 {
     match h {
-        Held::Nothing => m,
-        Held::Byte(f4) => take_effect(m, f4),
+        None => m,
+        Some(f4) => take_effect(m, f4),
     }
 }

@@ -24,31 +24,34 @@ fn is_unread(c: Conversion) -> bool
 }
 
 // A conversion is shown; the one that it replaces is overwritten, if unread.
+#[tactic(auto, unfolding(machine::specs::Events::showing))]
 fn show(c: Conversion, m: Machine) -> Machine
     ensures { result ≡ ev.showing c m }
 {
-    let mut n = m;
-    n.ledger = machine_counts::count_overwritten(is_unread(m.shown), m.ledger);
-    n.shown = c;
-    n
+    Machine {
+        shown: c,
+        ledger: machine_counts::count_overwritten(is_unread(m.shown), m.ledger),
+        ..m
+    }
 }
 
 // A conversion waits; the one that it replaces is overwritten, if unread.
+#[tactic(auto, unfolding(machine::specs::Events::keeping))]
 fn keep_waiting(c: Conversion, m: Machine) -> Machine
     ensures { result ≡ ev.keeping c m }
 {
-    let mut n = m;
-    n.ledger = machine_counts::count_overwritten(is_unread(m.waiting), m.ledger);
-    n.waiting = c;
-    n
+    Machine {
+        waiting: c,
+        ledger: machine_counts::count_overwritten(is_unread(m.waiting), m.ledger),
+        ..m
+    }
 }
 
 // While a burst is open a finished conversion waits.
 pub fn land(c: Conversion, m: Machine) -> Machine
     ensures { result ≡ ev.landed c m }
 {
-    let burst = m.burst;
-    if machine_state::is_open(burst) {
+    if machine_state::is_open(m.burst) {
         keep_waiting(c, m)
     } else {
         show(c, m)
@@ -56,43 +59,43 @@ pub fn land(c: Conversion, m: Machine) -> Machine
 }
 
 // What waits is shown.
+#[tactic(auto, unfolding(machine::specs::Events::waiting_shown))]
 pub fn show_waiting(m: Machine) -> Machine
     ensures { result ≡ ev.waiting_shown m }
 {
-    let waiting = m.waiting;
-    if is_there(waiting) {
-        let device = m.device;
-        let kind = device.kind;
-        let mut n = show(waiting, m);
-        n.waiting = machine_state::no_conversion(kind);
-        n
+    if is_there(m.waiting) {
+        Machine {
+            waiting: machine_state::no_conversion(m.device.kind),
+            ..show(m.waiting, m)
+        }
     } else {
         m
     }
 }
 
 // The shown conversion is delivered, and counted the first time.
+#[tactic(auto, unfolding(machine::specs::Events::delivering))]
 pub fn deliver(m: Machine) -> Machine
     ensures { result ≡ ev.delivering m }
 {
-    let mut shown = m.shown;
-    shown.delivered = is_there(m.shown);
-    let mut n = m;
-    n.ledger = machine_counts::count_delivered(is_unread(m.shown), m.ledger);
-    n.shown = shown;
-    n
+    let shown = Conversion {
+        delivered: is_there(m.shown),
+        ..m.shown
+    };
+    Machine {
+        shown,
+        ledger: machine_counts::count_delivered(is_unread(m.shown), m.ledger),
+        ..m
+    }
 }
 
 // The ledger, and what stands by name.
 pub fn tally(m: Machine) -> Tally
     ensures { result ≡ counts.tallied m }
 {
-    let device = m.device;
-    let phase = device.phase;
-    let ledger = m.ledger;
     Tally {
-        ledger: ledger,
-        running: machine_state::is_running(phase),
+        ledger: m.ledger,
+        running: machine_state::is_running(m.device.phase),
         waiting: is_there(m.waiting),
         unread: is_unread(m.shown),
     }

@@ -6,24 +6,6 @@ ghost use Rattle.machine.specs.Counts as counts;
 
 use machine::Ledger;
 
-// The sum of two counts.
-fn sum(a: u32, b: u32) -> u32
-    ensures { result ≡ counts.sum a b }
-{
-    if paper::MOST_BEGUN - a <= b {
-        paper::MOST_BEGUN
-    } else {
-        a + b
-    }
-}
-
-// One less, and none of none.
-fn one_less(n: u32) -> u32
-    ensures { result ≡ n - 1 }
-{
-    if n == 0 { 0 } else { n - 1 }
-}
-
 // Whether an event that begins a conversion would begin one too many.
 pub fn is_barred(begins: bool, l: Ledger) -> bool
     ensures { result ≡ counts.is_barred begins l }
@@ -36,10 +18,11 @@ pub fn count_begun(yes: bool, l: Ledger) -> Ledger
     ensures { result ≡ counts.begun_if yes l }
 {
     if yes {
-        let mut k = l;
-        k.begun = sum(l.begun, 1);
-        k.standing = sum(l.standing, 1);
-        k
+        Ledger {
+            begun: l.begun.saturating_add(1),
+            standing: l.standing.saturating_add(1),
+            ..l
+        }
     } else {
         l
     }
@@ -50,10 +33,10 @@ pub fn count_delivered(yes: bool, l: Ledger) -> Ledger
     ensures { result ≡ counts.delivered_if yes l }
 {
     if yes {
-        let mut k = l;
-        k.delivered = sum(l.delivered, 1);
-        k.standing = one_less(l.standing);
-        k
+        Ledger {
+            delivered: l.delivered.saturating_add(1),
+            ..with_one_less(l)
+        }
     } else {
         l
     }
@@ -64,12 +47,22 @@ pub fn count_overwritten(yes: bool, l: Ledger) -> Ledger
     ensures { result ≡ counts.overwritten_if yes l }
 {
     if yes {
-        let mut k = l;
-        k.overwritten = sum(l.overwritten, 1);
-        k.standing = one_less(l.standing);
-        k
+        Ledger {
+            overwritten: l.overwritten.saturating_add(1),
+            ..with_one_less(l)
+        }
     } else {
         l
+    }
+}
+
+// One fewer stands, and none of none.
+fn with_one_less(l: Ledger) -> Ledger
+    ensures { result ≡ counts.with_standing (l.standing - 1) l }
+{
+    Ledger {
+        standing: l.standing.saturating_sub(1),
+        ..l
     }
 }
 
@@ -77,8 +70,9 @@ pub fn count_overwritten(yes: bool, l: Ledger) -> Ledger
 pub fn count_abandoned(l: Ledger) -> Ledger
     ensures { result ≡ counts.abandoned_all l }
 {
-    let mut k = l;
-    k.abandoned = sum(l.abandoned, l.standing);
-    k.standing = 0;
-    k
+    Ledger {
+        abandoned: l.abandoned.saturating_add(l.standing),
+        standing: 0,
+        ..l
+    }
 }

@@ -14,17 +14,16 @@ mod storing; // the bytes that a finish stores
 pub fn finish(m: Machine, temperature: u32, pressure: u32, humidity: u32) -> Outcome
     ensures { result ≡ ev.finished m temperature pressure humidity }
 {
-    let device = m.device;
-    if !converting::may_finish(device) {
+    if !converting::may_finish(m.device) {
         return answer(paper::WRONG_PHASE, m);
     }
     if !storing::is_in_range(temperature, pressure, humidity) {
         return answer(paper::OUT_OF_RANGE, m);
     }
-    if machine_counts::is_barred(converting::held_will_begin(device), m.ledger) {
+    if machine_counts::is_barred(converting::held_will_begin(m.device), m.ledger) {
         return answer(paper::ALL_BEGUN, m);
     }
-    let bytes = storing::store(device, temperature, pressure, humidity);
+    let bytes = storing::store(m.device, temperature, pressure, humidity);
     answer(paper::DONE, converting::convert(m, bytes))
 }
 
@@ -32,9 +31,7 @@ pub fn finish(m: Machine, temperature: u32, pressure: u32, humidity: u32) -> Out
 pub fn wake(m: Machine) -> Outcome
     ensures { result ≡ ev.woken m }
 {
-    let device = m.device;
-    let phase = device.phase;
-    if !machine_state::is_in_standby(phase) {
+    if !machine_state::is_in_standby(m.device.phase) {
         return answer(paper::WRONG_PHASE, m);
     }
     if machine_counts::is_barred(true, m.ledger) {

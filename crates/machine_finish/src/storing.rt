@@ -26,18 +26,16 @@ fn if_there(there: bool, kept: u32) -> u32
 }
 
 // The bytes that the device stores of three counts.
+#[tactic(auto, unfolding(machine::specs::Data::stored))]
 pub fn store(d: Device, temperature: u32, pressure: u32, humidity: u32) -> [u8; 8]
     ensures { result ≡ bytes.stored d temperature pressure humidity }
 {
-    let codes = d.codes;
-    let kind = d.kind;
-    let chip = kinds::facts(kind);
     data::lay(
-        keep(codes.temperature, temperature, paper::SKIPPED_20),
-        keep(codes.pressure, pressure, paper::SKIPPED_20),
+        keep(d.codes.temperature, temperature, paper::SKIPPED_20),
+        keep(d.codes.pressure, pressure, paper::SKIPPED_20),
         if_there(
-            chip.humidity,
-            keep(codes.humidity, humidity, paper::SKIPPED_16),
+            kinds::facts(d.kind).humidity,
+            keep(d.codes.humidity, humidity, paper::SKIPPED_16),
         ),
     )
 }

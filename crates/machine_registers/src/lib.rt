@@ -17,8 +17,7 @@ fn bit(set: bool, value: u8) -> u8
 fn status(d: Device) -> u8
     ensures { result ≡ bytes.status d }
 {
-    let phase = d.phase;
-    bit(machine_state::is_running(phase), paper::STATUS_RUNNING)
+    bit(machine_state::is_running(d.phase), paper::STATUS_RUNNING)
         + bit(d.copying, paper::STATUS_COPYING)
 }
 
@@ -26,41 +25,22 @@ fn status(d: Device) -> u8
 fn data_at(address: u8, m: Machine) -> u8
     ensures { result ≡ bytes.data_at address m }
 {
-    if address < paper::FIRST_DATA {
+    if address < paper::FIRST_DATA || kinds::facts(m.device.kind).last < address {
         return 0;
     }
-    let device = m.device;
-    let kind = device.kind;
-    let chip = kinds::facts(kind);
-    if chip.last < address {
-        return 0;
-    }
-    let shown = m.shown;
-    let at = (address - paper::FIRST_DATA) as usize;
-    shown.bytes[at]
+    m.shown.bytes[(address - paper::FIRST_DATA) as usize]
 }
 
 // The register at an address.
 pub fn register(address: u8, m: Machine) -> u8
     ensures { result ≡ bytes.register address m }
 {
-    let device = m.device;
-    if address == paper::CHIP_ID {
-        let kind = device.kind;
-        let chip = kinds::facts(kind);
-        return chip.id;
+    match address {
+        paper::CHIP_ID => kinds::facts(m.device.kind).id,
+        paper::CTRL_HUM => machine_state::f2_of(m.device),
+        paper::STATUS => status(m.device),
+        paper::CTRL_MEAS => m.device.f4,
+        paper::CONFIG => m.device.f5,
+        _ => data_at(address, m),
     }
-    if address == paper::CTRL_HUM {
-        return machine_state::f2_of(device);
-    }
-    if address == paper::STATUS {
-        return status(device);
-    }
-    if address == paper::CTRL_MEAS {
-        return device.f4;
-    }
-    if address == paper::CONFIG {
-        return device.f5;
-    }
-    data_at(address, m)
 }

@@ -6,7 +6,7 @@ ghost use Rattle.machine.specs.State as state;
 ghost use Rattle.machine.specs.Events as ev;
 
 use kinds::Kind;
-use machine::{Burst, Device, Held, Ledger, Machine, Outcome, Phase};
+use machine::{Device, Ledger, Machine, Outcome, Phase};
 use machine_state::answer;
 
 // The fresh state of a kind of part.
@@ -31,27 +31,25 @@ pub fn fresh_after(kind: Kind, conversions: u32) -> Machine
 }
 
 // All fresh but the kind and the ledger.
-fn fresh_with(kind: Kind, l: Ledger) -> Machine
-    ensures { result ≡ state.fresh_with kind l }
+fn fresh_with(kind: Kind, ledger: Ledger) -> Machine
+    ensures { result ≡ state.fresh_with kind ledger }
 {
     let none = machine_state::no_conversion(kind);
-    let codes = none.codes;
-    let device = Device {
-        kind: kind,
-        phase: Phase::Sleep,
-        copying: true,
-        f2: 0,
-        f4: 0,
-        f5: 0,
-        held: Held::Nothing,
-        codes: codes,
-    };
     Machine {
-        device: device,
-        burst: Burst::Closed,
+        device: Device {
+            phase: Phase::Sleep,
+            copying: true,
+            f2: 0,
+            f4: 0,
+            f5: 0,
+            held: None,
+            codes: none.codes,
+            kind,
+        },
+        burst: None,
         shown: none,
         waiting: none,
-        ledger: l,
+        ledger,
     }
 }
 
@@ -59,9 +57,7 @@ fn fresh_with(kind: Kind, l: Ledger) -> Machine
 pub fn reset(m: Machine) -> Machine
     ensures { result ≡ ev.reset m }
 {
-    let device = m.device;
-    let kind = device.kind;
-    fresh_with(kind, machine_counts::count_abandoned(m.ledger))
+    fresh_with(m.device.kind, machine_counts::count_abandoned(m.ledger))
 }
 
 // Power is lost and returns: always done.
@@ -75,12 +71,12 @@ pub fn power(m: Machine) -> Outcome
 pub fn copied(m: Machine) -> Outcome
     ensures { result ≡ ev.copying_ended m }
 {
-    let mut device = m.device;
-    if !device.copying {
+    if !m.device.copying {
         return answer(paper::WRONG_PHASE, m);
     }
-    device.copying = false;
-    let mut n = m;
-    n.device = device;
-    answer(paper::DONE, n)
+    let device = Device {
+        copying: false,
+        ..m.device
+    };
+    answer(paper::DONE, Machine { device, ..m })
 }

@@ -8,7 +8,7 @@ ghost use Rattle.machine.specs.Fields as fields;
 ghost use Rattle.machine.specs.State as state;
 
 use kinds::Kind;
-use machine::{Burst, Codes, Conversion, Device, Held, Machine, Outcome, Phase};
+use machine::{Codes, Conversion, Device, Machine, OpenBurst, Outcome, Phase};
 
 // No codes.
 const NO_CODES: Codes = Codes {
@@ -21,77 +21,46 @@ const NO_CODES: Codes = Codes {
 pub fn is_running(p: Phase) -> bool
     ensures { result ≡ state.runs p }
 {
-    match p {
-        Phase::Sleep => false,
-        Phase::Forced => true,
-        Phase::Normal => true,
-        Phase::Standby => false,
-    }
+    matches!(p, Phase::Forced | Phase::Normal)
 }
 
 // Whether the device stands by between two conversions.
 pub fn is_in_standby(p: Phase) -> bool
     ensures { result ≡ state.stands_by p }
 {
-    match p {
-        Phase::Sleep => false,
-        Phase::Forced => false,
-        Phase::Normal => false,
-        Phase::Standby => true,
-    }
+    p == Phase::Standby
 }
 
 // Whether a burst is open.
-pub fn is_open(b: Burst) -> bool
+pub fn is_open(b: Option<OpenBurst>) -> bool
     ensures { result ≡ state.is_open b }
 {
-    match b {
-        Burst::Closed => false,
-        Burst::Open(_, _) => true,
-    }
-}
-
-// The device in a phase and with an F4 held or none, all else as it was.
-fn device_with(phase: Phase, held: Held, d: Device) -> Device
-    ensures { result ≡ fields.with_phase phase (fields.with_held held d) }
-{
-    let kind = d.kind;
-    let codes = d.codes;
-    Device {
-        kind: kind,
-        phase: phase,
-        copying: d.copying,
-        f2: d.f2,
-        f4: d.f4,
-        f5: d.f5,
-        held: held,
-        codes: codes,
-    }
+    b.is_some()
 }
 
 // The device in another phase.
 pub fn with_phase(phase: Phase, d: Device) -> Device
     ensures { result ≡ fields.with_phase phase d }
 {
-    let held = d.held;
-    device_with(phase, held, d)
+    Device { phase, ..d }
 }
 
 // The device with another F4 held, or none.
-pub fn with_held(held: Held, d: Device) -> Device
+pub fn with_held(held: Option<u8>, d: Device) -> Device
     ensures { result ≡ fields.with_held held d }
 {
-    let phase = d.phase;
-    device_with(phase, held, d)
+    Device { held, ..d }
 }
 
 // F2, where the part has it, and else 0.
 pub fn f2_of(d: Device) -> u8
     ensures { result ≡ control.f2_of d }
 {
-    let kind = d.kind;
-    let chip = kinds::facts(kind);
-    if chip.humidity { d.f2 } else { 0 }
+    if kinds::facts(d.kind).humidity {
+        d.f2
+    } else {
+        0
+    }
 }
 
 // No conversion of a kind of part.
@@ -99,12 +68,11 @@ pub fn no_conversion(kind: Kind) -> Conversion
     ensures { result ≡ state.no_conversion kind }
 {
     let chip = kinds::facts(kind);
-    let codes = NO_CODES;
     let bytes = chip.fresh;
     Conversion {
         number: 0,
-        codes: codes,
-        bytes: bytes,
+        codes: NO_CODES,
+        bytes,
         delivered: false,
     }
 }
@@ -113,16 +81,14 @@ pub fn no_conversion(kind: Kind) -> Conversion
 pub fn answer(number: u8, m: Machine) -> Outcome
     ensures { result ≡ ev.answered number m }
 {
-    let codes = NO_CODES;
-    let bytes = [0u8; 8];
     Outcome {
         answer: number,
         value: 0,
         whole: false,
         number: 0,
-        codes: codes,
+        codes: NO_CODES,
         delivered: false,
-        bytes: bytes,
+        bytes: [0u8; 8],
         machine: m,
     }
 }

@@ -1,9 +1,8 @@
 // Write, register by register.
 ghost use Rattle.std.specs.Prelude.{◌≡◌};
 ghost use Rattle.machine.specs.Events as ev;
-ghost use Rattle.machine.specs.State as state;
 
-use machine::{Device, Held, Machine, Outcome, Phase};
+use machine::{Device, Machine, Outcome, Phase};
 use machine_state::answer;
 
 // E0: the reset word resets, any other byte is ignored.
@@ -21,71 +20,44 @@ pub fn write_reset(m: Machine, value: u8) -> Outcome
 fn write_f2(m: Machine, value: u8) -> Outcome
     ensures { result ≡ ev.written_f2 m value }
 {
-    let mut device = m.device;
-    device.f2 = value % 8;
-    let mut n = m;
-    n.device = device;
-    answer(paper::DONE, n)
-}
-
-// Whether the device sleeps.
-fn is_asleep(p: Phase) -> bool
-    ensures { result ≡ state.sleeps p }
-{
-    match p {
-        Phase::Sleep => true,
-        Phase::Forced => false,
-        Phase::Normal => false,
-        Phase::Standby => false,
-    }
+    let device = Device {
+        f2: value % 8,
+        ..m.device
+    };
+    answer(paper::DONE, Machine { device, ..m })
 }
 
 // F5 is taken in sleep, with bit 1 dropped.
 fn write_f5(m: Machine, value: u8) -> Outcome
     ensures { result ≡ ev.written_f5 m value }
 {
-    let mut device = m.device;
-    let phase = device.phase;
-    if !is_asleep(phase) {
+    if m.device.phase != Phase::Sleep {
         return answer(paper::IGNORED, m);
     }
-    device.f5 = value / 4 * 4 + value % 2;
-    let mut n = m;
-    n.device = device;
-    answer(paper::DONE, n)
-}
-
-// Whether an F4 is held.
-fn is_held(h: Held) -> bool
-    ensures { result ≡ state.is_held h }
-{
-    match h {
-        Held::Nothing => false,
-        Held::Byte(_) => true,
-    }
+    let device = Device {
+        f5: value / 4 * 4 + value % 2,
+        ..m.device
+    };
+    answer(paper::DONE, Machine { device, ..m })
 }
 
 // F4 during a conversion is held, if none is held.
 fn hold_f4(m: Machine, value: u8) -> Outcome
     ensures { result ≡ ev.held_f4 m value }
 {
-    let device = m.device;
-    let held = device.held;
-    if is_held(held) {
+    if m.device.held.is_some() {
         return answer(paper::IGNORED, m);
     }
-    let mut n = m;
-    n.device = machine_state::with_held(Held::Byte(value), device);
-    answer(paper::DONE, n)
+    let device = machine_state::with_held(Some(value), m.device);
+    answer(paper::DONE, Machine { device, ..m })
 }
 
 // F4 takes effect, unless it would begin one too many.
 fn take_f4(m: Machine, value: u8) -> Outcome
     ensures { result ≡ ev.taken_f4 m value }
 {
-    let device = m.device;
-    let phase = device.phase;
-    if machine_counts::is_barred(machine_control::begins(phase, value), m.ledger) {
+    let begins = machine_control::begins(m.device.phase, value);
+    if machine_counts::is_barred(begins, m.ledger) {
         return answer(paper::ALL_BEGUN, m);
     }
     answer(paper::DONE, machine_control::take_effect(m, value))
@@ -95,9 +67,7 @@ fn take_f4(m: Machine, value: u8) -> Outcome
 fn write_f4(m: Machine, value: u8) -> Outcome
     ensures { result ≡ ev.written_f4 m value }
 {
-    let device = m.device;
-    let phase = device.phase;
-    if machine_state::is_running(phase) {
+    if machine_state::is_running(m.device.phase) {
         hold_f4(m, value)
     } else {
         take_f4(m, value)
@@ -108,8 +78,7 @@ fn write_f4(m: Machine, value: u8) -> Outcome
 fn may_write(d: Device) -> bool
     ensures { result ≡ ev.may_write d }
 {
-    let phase = d.phase;
-    !d.copying | machine_state::is_running(phase)
+    !d.copying | machine_state::is_running(d.phase)
 }
 
 // F2, F5 and F4, where nothing is being copied or a conversion is running.
@@ -119,11 +88,9 @@ pub fn write_control(m: Machine, register: u8, value: u8) -> Outcome
     if !may_write(m.device) {
         return answer(paper::STILL_COPYING, m);
     }
-    if register == paper::CTRL_HUM {
-        return write_f2(m, value);
+    match register {
+        paper::CTRL_HUM => write_f2(m, value),
+        paper::CONFIG => write_f5(m, value),
+        _ => write_f4(m, value),
     }
-    if register == paper::CONFIG {
-        return write_f5(m, value);
-    }
-    write_f4(m, value)
 }

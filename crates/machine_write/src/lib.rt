@@ -13,13 +13,10 @@ mod by_register; // what each register makes of its value
 pub fn write(m: Machine, register: u8, value: u8) -> Outcome
     ensures { result ≡ ev.written m register value }
 {
-    let burst = m.burst;
-    if machine_state::is_open(burst) {
+    if machine_state::is_open(m.burst) {
         return answer(paper::BURST_IS_OPEN, m);
     }
-    let device = m.device;
-    let kind = device.kind;
-    if !kinds::is_writable(kind, register) {
+    if !kinds::is_writable(m.device.kind, register) {
         return answer(paper::ADDRESS_NOT_ALLOWED, m);
     }
     if register == paper::RESET {

@@ -1,4 +1,5 @@
 // A whole reading by the plain roads of its three channels, where all are enabled and every road is taken. Real air is read so.
+// The codes come as three bytes, as in `compensation`'s calls: docs/PROMISES.md promises these so.
 #![tactic(auto)]
 
 ghost use Rattle.std.specs.Prelude.{◌≡◌};

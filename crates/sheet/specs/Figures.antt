@@ -1,34 +1,30 @@
 -- What an answer hands back, as figures: the paper's number, and then the values, where there are any.
-use Rattle.std.specs.Prelude.{ℕ, Bool, true, false, List, [], ◌∷◌, ◌++◌, ℤ, pos}
+use Rattle.std.specs.Prelude.{ℕ, Bool, true, false, List, [], ◌∷◌, ◌++◌, ℤ, pos, Ok, Err}
 use Rattle.paper.specs.Numbers as no
 use Rattle.paper.specs.Answers.{Answered, Answer, SignedAnswer}
-use Rattle.calibration.specs.declared.Calibration.{Calibration}
-use Rattle.calibration.specs.declared.Calibration.TheVariants as blocks
-use Rattle.formula.specs.declared.TemperatureAnswer.{TemperatureAnswer}
-use Rattle.formula.specs.declared.TemperatureAnswer.TheVariants as heat
-use Rattle.formula.specs.declared.ChannelAnswer.{ChannelAnswer}
-use Rattle.formula.specs.declared.ChannelAnswer.TheVariants as channel
+use Rattle.calibration.specs.Calibration.{Calibration}
+use Rattle.formula.specs.Answers.{TemperatureAnswer, ChannelAnswer}
 use Rattle.machine.specs.declared.Outcome.{Outcome}
 use Rattle.machine.specs.declared.Ledger.{Ledger}
 
 abbrev pub of_temperature : TemperatureAnswer → List ℤ
-of_temperature (heat.Known value fine) = pos no.done ∷ value ∷ []
-of_temperature (heat.Missing m) = pos m.number ∷ []
+of_temperature (Ok t) = pos no.done ∷ t.value ∷ []
+of_temperature (Err m) = pos m.number ∷ []
 
 -- the fine temperature, which is absent where the temperature is
 abbrev pub of_fine : TemperatureAnswer → List ℤ
-of_fine (heat.Known value fine) = fine ∷ []
-of_fine (heat.Missing m) = []
+of_fine (Ok t) = t.fine ∷ []
+of_fine (Err m) = []
 
 -- a pressure or a humidity
 abbrev pub of_channel : ChannelAnswer → List ℤ
-of_channel (channel.Known value) = pos no.done ∷ pos value ∷ []
-of_channel (channel.Missing m) = pos m.number ∷ []
+of_channel (Ok value) = pos no.done ∷ pos value ∷ []
+of_channel (Err m) = pos m.number ∷ []
 
 -- H4 and H5
 abbrev pub of_calibration : Calibration → List ℤ
-of_calibration (blocks.Known words) = pos no.done ∷ words.humidity.h4 ∷ words.humidity.h5 ∷ []
-of_calibration (blocks.Refused n) = pos n ∷ []
+of_calibration (Ok words) = pos no.done ∷ words.humidity.h4 ∷ words.humidity.h5 ∷ []
+of_calibration (Err r) = pos r.number ∷ []
 
 -- the number of the whole, and then each channel's number and values
 abbrev pub of_channels : List SignedAnswer → List ℤ

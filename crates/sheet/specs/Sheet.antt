@@ -1,14 +1,12 @@
 -- The bench sheet of exact results: K1 to K14 as one table, and one theorem over it.
-use Rattle.std.specs.Prelude.{ℕ, ◌≡◌, ℤ, pos, negsuc}
+use Rattle.std.specs.Prelude.{ℕ, ◌≡◌, ℤ, pos, negsuc, Ok, Err}
 use mathlib.Core.List.{List, [], ◌∷◌, ◌++◌, Memᴰ}
 use Rattle.steps.specs.declared.Signed.TheVariants.{Bits64}
-use Rattle.steps.specs.declared.Num.{Num}
-use Rattle.steps.specs.declared.Num.TheVariants.{Value, Broke}
+use Rattle.steps.specs.Step.{Num}
 use Rattle.steps.specs.Work.{Work, given, share, run, ◌+ʷ◌, ◌<<◌, ◌>>◌}
 use Rattle.calibration.specs.declared.PressureWords.{PressureWords}
 use Rattle.calibration.specs.Calibration.{calibrated}
-use Rattle.formula.specs.declared.TemperatureAnswer.{TemperatureAnswer}
-use Rattle.formula.specs.declared.TemperatureAnswer.TheVariants as heat
+use Rattle.formula.specs.Answers.{TemperatureAnswer}
 use Rattle.formula_temperature.specs.Temperature as t
 use Rattle.formula_pressure.specs.Pressure as p
 use Rattle.compensation.specs.Compensation.{pressure_at, humidity_at, compensated, reading_answer}
@@ -26,8 +24,8 @@ abbrev k : ℕ → List ℤ → List ℤ → Row
 k n defined printed = record { name = n; defined = defined; printed = printed }
 
 abbrev of_num : Num → List ℤ
-of_num (Value z) = pos 0 ∷ z ∷ []
-of_num (Broke n) = pos n ∷ []
+of_num (Ok z) = pos 0 ∷ z ∷ []
+of_num (Err m) = pos m.number ∷ []
 
 -- ---- the chips of the sheet
 
@@ -79,11 +77,11 @@ unfoldable pub unbracketed_line : PressureWords → ℤ → ℤ → ℤ → Work
 unbracketed_line words q var1 var2 = (given q +ʷ given var1 +ʷ given var2 >> 8) +ʷ given words.p7 << 4
 
 abbrev of_unbracketed : TemperatureAnswer → PressureWords → ℕ → List ℤ
-of_unbracketed (heat.Missing m) words count = pos m.number ∷ []
-of_unbracketed (heat.Known value fine) words count =
+of_unbracketed (Err m) words count = pos m.number ∷ []
+of_unbracketed (Ok warm) words count =
     of_num
     (run Bits64
-    (share (p.difference_line fine) λ difference.
+    (share (p.difference_line warm.fine) λ difference.
     share (p.offset_lines words difference) λ var2.
     share (p.divisor_lines words difference) λ var1.
     share (p.quotient_lines count var2 var1) λ q.

@@ -3,10 +3,11 @@ use Prim.Native.Nat.{ℕ, zero, suc, ◌+◌}
 use mathlib.Core.List.{List, [], ◌∷◌, ◌++◌, append-nil}
 use mathlib.Core.Path.{◌≡◌, refl, sym, ap, subst, ◌∙◌}
 use lib.ListN.{length}
+use Rattle.std.specs.Prelude.{Ok, Err}
 use Rattle.visit.specs.declared.Place.{Place}
 use Rattle.visit.specs.declared.Place.TheVariants as place
 use Rattle.visit.specs.Tags as tag
-use Rattle.visit.specs.Steps.{Answer, value, missing, Step, slot, around}
+use Rattle.visit.specs.Steps.{Answer, value, Step, slot, around}
 use Rattle.visit.specs.Tree.{Reading, exact, pascals, gone, Group, Groups, of_slot, of_groups, none, more, Within, Valid, AllValid, reading_bytes, framed, inside, in_all}
 use Rattle.visit.specs.Tree.{encode, Bytes, answer_of, steps_in, steps_in_all, steps_of}
 use Rattle.visit.specs.Reader.{Front, holding, telling, failing, front, Field, grouped, answered, bad, field_from, Read, read, refused, framed_steps, ended, joined}
@@ -125,8 +126,8 @@ first-is-time (gone n) time w e = (let z = w.0 in apart (cc))
 time-from : (l : ℕ) (s : List ℕ) (at : ℕ) (a : Answer) (rest : List ℕ) (next : ℕ) (got : List Step) → Bytes s → field_of l place.First s at ≡ answered a rest next
     → body_from (field_of l) (answered a rest next) ≡ read got → Body l s got
 unfolding body_from inside steps_in
-time-from l s at (missing n) rest next got b f e = apart (cc)
-time-from l s at (value time) rest next got b f e =
+time-from l s at (Err a) rest next got b f e = apart (cc)
+time-from l s at (Ok time) rest next got b f e =
     let x = answer-from place.First s at (value time) rest next b (field-answer (inner_of l at) (front place.First s at) (value time) rest next (sym (field_is l place.First s at) ∙ f)) in
     let r = first-is-time x.reading time x.within x.answer in
     let y = slot-from time rest next got (left-bytes place.First x.reading s rest b x.bytes) e in

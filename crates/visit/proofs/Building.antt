@@ -7,11 +7,12 @@ use mathlib.Core.List.{List, [], ◌∷◌, ◌++◌, append_assoc}
 use mathlib.Core.Path.{◌≡◌, refl, sym, ap, ◌∙◌}
 use lib.Dec.{leb}
 use lib.ListN.{length, length-append}
+use Rattle.std.specs.Prelude.{Ok, Err}
 use Rattle.visit.specs.declared.Place.{Place}
 use Rattle.visit.specs.declared.Place.TheVariants as place
 use Rattle.visit.specs.declared.Holds.TheVariants as holds
 use Rattle.visit.specs.declared.Stage.TheVariants as stage
-use Rattle.visit.specs.Steps.{Answer, value, missing, Step, opened, slot, closed, stray, around}
+use Rattle.visit.specs.Steps.{Slot, Answer, Step, opened, slot, slotted, closed, stray, around}
 use Rattle.visit.specs.Tree.{Reading, exact, gone, Group, Groups, of_slot, of_groups, none, more, most, has_value, has_missing, Within, Valid, AllValid, answer_of}
 use Rattle.visit.specs.Tree.{steps_in, steps_in_all, steps_of, plain_reading, plain, plain_all}
 use Rattle.visit.specs.Writer.{onward, halt, is_within, slot_fits, up, turn, fine, go_on, checked}
@@ -22,24 +23,24 @@ use Rattle.paper.specs.Numbers as no
 -- ---- accepted steps are those of a tree
 
 abbrev reading_of : Answer → Reading
-reading_of (value v) = exact v
-reading_of (missing n) = gone n
+reading_of (Ok v) = exact v
+reading_of (Err a) = gone a.number
 
 answer_back : (a : Answer) → answer_of (reading_of a) ≡ a
-answer_back (value v) = refl
-answer_back (missing n) = refl
+answer_back (Ok v) = refl
+answer_back (Err a) = refl
 
 plain_back : (a : Answer) → plain_reading (reading_of a) ≡ reading_of a
-plain_back (value v) = refl
-plain_back (missing n) = refl
+plain_back (Ok v) = refl
+plain_back (Err a) = refl
 
 both-parts : (a b : Bool) → a && b ≡ true → (a ≡ true) × (b ≡ true)
 both-parts true b e = (refl, e)
 both-parts false b e = apart (cc)
 
 within-back : (p : Place) (a : Answer) → has_value p ≡ true → has_missing p ≡ true → is_within p a ≡ true → Within p (reading_of a)
-within-back p (value v) x y e = (x, leb-true v (most p) e)
-within-back p (missing n) x y e = let b = both-parts (leb 10 n) (leb n 14) e in (y, (leb-true 10 n b.0, leb-true n 14 b.1))
+within-back p (Ok v) x y e = (x, leb-true v (most p) e)
+within-back p (Err a) x y e = let b = both-parts (leb 10 a.number) (leb a.number 14) e in (y, (leb-true 10 a.number b.0, leb-true a.number 14 b.1))
 
 -- what a group holds, up to its close, and the steps after that
 pub record In (l : ℕ) (ss : List Step) : Type 0 where
@@ -65,31 +66,31 @@ after-slot : (l : ℕ) (ss : List Step) (i : ℕ) → checked (stage.Open l hold
 unfolding checked turn
 after-slot l [] i e = apart (cc)
 after-slot l (opened ∷ ss) i e = apart (cc)
-after-slot l (slot time t p h ∷ ss) i e = apart (cc)
+after-slot l (slotted s ∷ ss) i e = apart (cc)
 after-slot l (stray ∷ ss) i e = apart (cc)
 after-slot l (closed ∷ ss) i e = (ss, refl, e)
 
-slot-in : (l time : ℕ) (t p h : Answer) (ss : List Step) (i : ℕ) → checked (stage.Open l holds.Nothing) (slot time t p h ∷ ss) i ≡ fine → In l (slot time t p h ∷ ss)
+slot-in : (l : ℕ) (s : Slot) (ss : List Step) (i : ℕ) → checked (stage.Open l holds.Nothing) (slotted s ∷ ss) i ≡ fine → In l (slotted s ∷ ss)
 unfolding checked turn slot_fits steps_in plain
-slot-in l time t p h ss i e = go (slot_fits time t p h) refl e
+slot-in l s ss i e = go (slot_fits s) refl e
   where
     go :
-        (b : Bool) → slot_fits time t p h ≡ b
-        → go_on (cond b (onward (stage.Open l holds.Slot)) (halt no.value_outside)) i (λ next. checked next ss (i + 1)) ≡ fine → In l (slot time t p h ∷ ss)
+        (b : Bool) → slot_fits s ≡ b
+        → go_on (cond b (onward (stage.Open l holds.Slot)) (halt no.value_outside)) i (λ next. checked next ss (i + 1)) ≡ fine → In l (slotted s ∷ ss)
     go true f e =
         let x = after-slot l ss (i + 1) e in
-        let a = both-parts (leb time 0xFFFFFFFF) (is_within place.Temperature t && (is_within place.Pressure p && is_within place.Humidity h)) f in
-        let b = both-parts (is_within place.Temperature t) (is_within place.Pressure p && is_within place.Humidity h) a.1 in
-        let c = both-parts (is_within place.Pressure p) (is_within place.Humidity h) b.1 in
+        let a = both-parts (leb s.time 0xFFFFFFFF) (is_within place.Temperature s.temperature && (is_within place.Pressure s.pressure && is_within place.Humidity s.humidity)) f in
+        let b = both-parts (is_within place.Temperature s.temperature) (is_within place.Pressure s.pressure && is_within place.Humidity s.humidity) a.1 in
+        let c = both-parts (is_within place.Pressure s.pressure) (is_within place.Humidity s.humidity) b.1 in
         record {
-          group = of_slot time (reading_of t) (reading_of p) (reading_of h);
+          group = of_slot s.time (reading_of s.temperature) (reading_of s.pressure) (reading_of s.humidity);
           valid = (
-            (refl, leb-true time 0xFFFFFFFF a.0),
-            (within-back place.Temperature t refl refl b.0, (within-back place.Pressure p refl refl c.0, within-back place.Humidity h refl refl c.1)),
+            (refl, leb-true s.time 0xFFFFFFFF a.0),
+            (within-back place.Temperature s.temperature refl refl b.0, (within-back place.Pressure s.pressure refl refl c.0, within-back place.Humidity s.humidity refl refl c.1)),
           );
-          is_plain = λ i. of_slot time (plain_back t i) (plain_back p i) (plain_back h i);
+          is_plain = λ i. of_slot s.time (plain_back s.temperature i) (plain_back s.pressure i) (plain_back s.humidity i);
           rest = x.0;
-          steps = λ i. slot time (sym (answer_back t) i) (sym (answer_back p) i) (sym (answer_back h) i) ∷ x.1 i;
+          steps = λ i. slot s.time (sym (answer_back s.temperature) i) (sym (answer_back s.pressure) i) (sym (answer_back s.humidity) i) ∷ x.1 i;
           place = i + 1 + 1;
           later = x.2;
         }
@@ -131,7 +132,7 @@ mutual
         place = y.place;
         later = y.later;
       }
-  in-from (suc fuel) l (slot time t p k ∷ ss) i h b e = slot-in l time t p k ss i e
+  in-from (suc fuel) l (slotted s ∷ ss) i h b e = slot-in l s ss i e
   in-from (suc fuel) l (closed ∷ ss) i h b e = apart (cc)
   in-from (suc fuel) l (stray ∷ ss) i h b e = apart (cc)
 
@@ -151,7 +152,7 @@ mutual
         place = y.place;
         later = y.later;
       }
-  all_from (suc fuel) l (slot time t p k ∷ ss) i h b e = apart (cc)
+  all_from (suc fuel) l (slotted s ∷ ss) i h b e = apart (cc)
   all_from (suc fuel) l (stray ∷ ss) i h b e = apart (cc)
   all_from (suc fuel) l (closed ∷ ss) i h b e = record { groups = none; valid = tt; are-plain = refl; rest = ss; steps = refl; place = i + 1; later = e }
 
@@ -166,7 +167,7 @@ after-done : (ss : List Step) (i : ℕ) → checked stage.Done ss i ≡ fine →
 unfolding checked turn
 after-done [] i e = refl
 after-done (opened ∷ ss) i e = apart (cc)
-after-done (slot time t p h ∷ ss) i e = apart (cc)
+after-done (slotted s ∷ ss) i e = apart (cc)
 after-done (closed ∷ ss) i e = apart (cc)
 after-done (stray ∷ ss) i e = apart (cc)
 
@@ -181,6 +182,6 @@ tree-from (opened ∷ ss) i e =
       is_plain = x.is_plain;
       steps = ap (λ y. opened ∷ y) (x.steps ∙ ap (λ y. steps_in x.group ++ (closed ∷ y)) (after-done x.rest x.place x.later));
     }
-tree-from (slot time t p h ∷ ss) i e = apart (cc)
+tree-from (slotted s ∷ ss) i e = apart (cc)
 tree-from (closed ∷ ss) i e = apart (cc)
 tree-from (stray ∷ ss) i e = apart (cc)

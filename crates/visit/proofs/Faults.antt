@@ -5,6 +5,7 @@ use mathlib.Core.Bool.{Bool}
 use mathlib.Core.List.{List, [], ◌∷◌}
 use lib.Dec.{eqb, ltb}
 use lib.ListN.{length, take, drop}
+use Rattle.std.specs.Prelude.{Ok, Err}
 use Rattle.laws.specs.Choices.{pick}
 use Rattle.visit.specs.declared.Place.{Place}
 use Rattle.visit.specs.declared.Place.TheVariants as place
@@ -13,11 +14,11 @@ use Rattle.visit.specs.declared.Kind.TheVariants as kind
 use Rattle.visit.specs.declared.Holds.TheVariants as holds
 use Rattle.visit.specs.declared.Stage.{Stage}
 use Rattle.visit.specs.declared.Stage.TheVariants as stage
-use Rattle.visit.specs.Steps.{Answer, value, missing, Step, opened, slot, closed, stray}
+use Rattle.visit.specs.Steps.{Answer, Step, opened, slot, slotted, closed, stray}
 use Rattle.visit.specs.Tags as tag
 use Rattle.visit.specs.Reader.{kind_of, Front, holding, telling, failing, front, Field, grouped, answered, bad, field_from, Read, read, refused, taken, framed_steps, by_kind}
 use Rattle.visit.specs.Reader.{ended, joined, on_answer, slot_of, on_group, walk, body_from, body_of, field_of, record_from, read_record}
-use Rattle.visit.specs.Writer.{Turn, onward, halt, slot_fits, deeper, turn, Checked, fine, wrong, at_end, go_on, checked}
+use Rattle.visit.specs.Writer.{Turn, slot_fits, deeper, turn, Checked, fine, wrong, at_end, go_on, checked}
 
 abbrev Fault : ℕ → Type 0
 Fault n = (18 ≤ n) × (n ≤ 22)
@@ -108,8 +109,8 @@ module _ (f : Place → List ℕ → ℕ → Field) (h : (p : Place) (s : List �
   body-fault : (x : Field) → FieldFault x → ReadFault (body_from f x)
   unfolding body_from
   body-fault (grouped held rest next) g = joined-fault held (walk f (length rest) rest next) (walk-fault (length rest) rest next)
-  body-fault (answered (value time) rest next) g = slot-fault time rest next
-  body-fault (answered (missing n) rest next) g = omega arith
+  body-fault (answered (Ok time) rest next) g = slot-fault time rest next
+  body-fault (answered (Err a) rest next) g = omega arith
   body-fault (bad n o) g = g
 
 level-fault : (l : ℕ) (p : Place) (s : List ℕ) (at : ℕ) → FieldFault (field_of l p s at)
@@ -132,8 +133,8 @@ read-fault s = from (field_of tag.levels place.Group s 0) (level-fault tag.level
 -- ---- writing
 
 abbrev TurnFault : Turn → Type 0
-TurnFault (onward st) = Unit
-TurnFault (halt n) = Fault n
+TurnFault (Ok st) = Unit
+TurnFault (Err r) = Fault r.number
 
 abbrev pub CheckedFault : Checked → Type 0
 CheckedFault fine = Unit
@@ -146,19 +147,19 @@ deeper-fault (suc l) = tt
 turn-fault : (st : Stage) (s : Step) → TurnFault (turn st s)
 unfolding turn
 turn-fault stage.Start opened = tt
-turn-fault stage.Start (slot time t p h) = omega arith
+turn-fault stage.Start (slotted s) = omega arith
 turn-fault stage.Start closed = omega arith
 turn-fault stage.Start stray = omega arith
 turn-fault (stage.Open l holds.Nothing) opened = deeper-fault l
-turn-fault (stage.Open l holds.Nothing) (slot time t p h) = pick TurnFault (slot_fits time t p h) (λ e. tt) (λ e. omega arith)
+turn-fault (stage.Open l holds.Nothing) (slotted s) = pick TurnFault (slot_fits s) (λ e. tt) (λ e. omega arith)
 turn-fault (stage.Open l holds.Nothing) closed = omega arith
 turn-fault (stage.Open l holds.Nothing) stray = omega arith
 turn-fault (stage.Open l holds.Groups) opened = deeper-fault l
-turn-fault (stage.Open l holds.Groups) (slot time t p h) = omega arith
+turn-fault (stage.Open l holds.Groups) (slotted s) = omega arith
 turn-fault (stage.Open l holds.Groups) closed = tt
 turn-fault (stage.Open l holds.Groups) stray = omega arith
 turn-fault (stage.Open l holds.Slot) opened = omega arith
-turn-fault (stage.Open l holds.Slot) (slot time t p h) = omega arith
+turn-fault (stage.Open l holds.Slot) (slotted s) = omega arith
 turn-fault (stage.Open l holds.Slot) closed = tt
 turn-fault (stage.Open l holds.Slot) stray = omega arith
 turn-fault stage.Done s = omega arith
@@ -169,8 +170,8 @@ end-fault (stage.Open l held) i = omega arith
 end-fault stage.Done i = tt
 
 on-fault : (x : Turn) (i : ℕ) (k : Stage → Checked) → TurnFault x → ((st : Stage) → CheckedFault (k st)) → CheckedFault (go_on x i k)
-on-fault (onward st) i k h g = g st
-on-fault (halt n) i k h g = h
+on-fault (Ok st) i k h g = g st
+on-fault (Err r) i k h g = h
 
 pub checked-fault : (st : Stage) (ss : List Step) (i : ℕ) → CheckedFault (checked st ss i)
 unfolding checked

@@ -6,9 +6,10 @@ use mathlib.Core.List.{List, [], ◌∷◌, ◌++◌, append-nil, append_assoc}
 use mathlib.Core.Path.{◌≡◌, refl, ap}
 use lib.ListN.{length, length-append}
 use lib.Seq.{drop_at}
+use Rattle.std.specs.Prelude.{Ok, Err}
 use Rattle.visit.specs.declared.Place.{Place}
 use Rattle.visit.specs.declared.Place.TheVariants as place
-use Rattle.visit.specs.Steps.{Answer, value, missing, Step, opened, slot, closed, stray, around}
+use Rattle.visit.specs.Steps.{Answer, Step, opened, slotted, closed, stray, around}
 use Rattle.visit.specs.Words.{words_each, number_word, value_word, words, words_of, answer_from, step_from, steps_first, from_words}
 use Rattle.visit.specs.Tree.{Reading, exact, pascals, gone, Group, Groups, of_slot, of_groups, none, more, Within, Valid, AllValid}
 use Rattle.visit.specs.Tree.{answer_of, steps_in, steps_in_all, steps_of}
@@ -20,7 +21,7 @@ use Rattle.visit.specs.Records.{Listed}
 pub words-length : (s : Step) → length (words s) ≡ words_each
 unfolding words
 words-length opened = refl
-words-length (slot time t p h) = refl
+words-length (slotted s) = refl
 words-length closed = refl
 words-length stray = refl
 
@@ -32,13 +33,13 @@ list_length (s ∷ ss) = omega (arith, length-append (words s) (words_of ss), wo
 -- ---- words say their steps again
 
 answer-again : (a : Answer) → Numbered a → answer_from (number_word a) (value_word a) ≡ a
-answer-again (value v) h = refl
-answer-again (missing n) h = rw (ne_eqb n 0 (omega arith))
+answer-again (Ok v) h = refl
+answer-again (Err a) h = rw (ne_eqb a.number 0 (omega arith))
 
 step-again : (s : Step) (rest : List ℕ) → AllNumbered s → step_from (words s ++ rest) ≡ s
 unfolding words step_from
 step-again opened rest h = refl
-step-again (slot time t p h) rest k = rw (answer-again t k.0, answer-again p k.1.0, answer-again h k.1.1)
+step-again (slotted s) rest k = rw (answer-again s.temperature k.0, answer-again s.pressure k.1.0, answer-again s.humidity k.1.1)
 step-again closed rest h = refl
 step-again stray rest h = refl
 

@@ -7,6 +7,7 @@ use mathlib.Core.Logic.{◌⊎◌, inl, inr}
 use mathlib.Core.Path.{◌≡◌, refl, sym, ap, ◌∙◌}
 use lib.Dec.{ltb}
 use lib.ListN.{length, drop}
+use Rattle.std.specs.Prelude.{Ok, Err}
 use Rattle.visit.specs.declared.Stage.{Stage}
 use Rattle.visit.specs.declared.Stage.TheVariants as stage
 use Rattle.visit.specs.Tags as tag
@@ -81,8 +82,8 @@ stops st (s ∷ ss) i n k e = go (turn st s) refl (λ next e. stops next ss (i +
     go : (x : Turn) → turn st s ≡ x
         → ((next : Stage) → checked next ss (i + 1) ≡ wrong n k → Stopped next ss (i + 1) n k ⊎ Unfinished next ss (i + 1) n k)
         → go_on x i (λ next. checked next ss (i + 1)) ≡ wrong n k → Stopped st (s ∷ ss) i n k ⊎ Unfinished st (s ∷ ss) i n k
-    go (onward next) f again e = later f (again next e)
-    go (halt m) f again e =
+    go (Ok next) f again e = later f (again next e)
+    go (Err r) f again e =
         inl
         (record {
           before = [];
@@ -91,8 +92,8 @@ stops st (s ∷ ss) i n k e = go (turn st s) refl (λ next e. stops next ss (i +
           end = st;
           split = refl;
           reached = refl;
-          halted = f ∙ ap halt (same_number m n i k e);
-          place = omega (arith, same_place m n i k e);
+          halted = f ∙ ap halt (same_number r.number n i k e);
+          place = omega (arith, same_place r.number n i k e);
         })
 
 -- ---- so that is the first fault

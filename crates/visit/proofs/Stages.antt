@@ -5,12 +5,13 @@ use mathlib.Core.Bool.{Bool, true, false, cond}
 use mathlib.Core.List.{List, [], ◌∷◌, ◌++◌}
 use mathlib.Core.Path.{◌≡◌, refl, sym, ap, subst, ◌∙◌}
 use lib.ListN.{length}
+use Rattle.std.specs.Prelude.{Ok, Err}
 use Rattle.visit.specs.declared.Holds.{Holds}
 use Rattle.visit.specs.declared.Holds.TheVariants as holds
 use Rattle.visit.specs.declared.Stage.{Stage}
 use Rattle.visit.specs.declared.Stage.TheVariants as stage
-use Rattle.visit.specs.Steps.{value, Step, opened, slot, closed, stray}
-use Rattle.visit.specs.Writer.{onward, halt, slot_fits, up, turn, fine, go_on, checked}
+use Rattle.visit.specs.Steps.{value, Step, opened, slot, slotted, closed, stray}
+use Rattle.visit.specs.Writer.{Turn, onward, halt, slot_fits, up, turn, fine, go_on, checked}
 use Rattle.visit.specs.Refusals.{open_from, Last, nothing, the, last_from, open_number, slot_number, number_for, Begins}
 use Rattle.visit.proofs.Apart.{apart}
 use Rattle.visit.proofs.Building.{tree-from}
@@ -34,7 +35,7 @@ checked-on st end (s ∷ p) q i r =
 abbrev IsSlot : Last → Type 0
 IsSlot nothing = ⊥
 IsSlot (the opened) = ⊥
-IsSlot (the (slot time t p h)) = Unit
+IsSlot (the (slotted s)) = Unit
 IsSlot (the closed) = ⊥
 IsSlot (the stray) = ⊥
 
@@ -61,27 +62,27 @@ up-tells (suc (suc (suc (suc l)))) d h e = absurd (omega arith)
 next-tells : (st next : Stage) (s : Step) (d : ℕ) (last : Last) → Tells st d last → turn st s ≡ onward next → Tells next (open_from d (s ∷ [])) (the s)
 unfolding turn
 next-tells stage.Start next opened d last h e = moved (stage.Open 3 holds.Nothing) next (suc d) (the opened) (cc) (omega arith, (omega (arith, h.0), refl))
-next-tells stage.Start next (slot time t p k) d last h e = apart (cc)
+next-tells stage.Start next (slotted s) d last h e = apart (cc)
 next-tells stage.Start next closed d last h e = apart (cc)
 next-tells stage.Start next stray d last h e = apart (cc)
 next-tells (stage.Open zero holds.Nothing) next opened d last h e = apart (cc)
 next-tells (stage.Open (suc l) holds.Nothing) next opened d last h e =
     moved (stage.Open l holds.Nothing) next (suc d) (the opened) (cc) (omega arith, (omega (arith, h.1.0), refl))
-next-tells (stage.Open l holds.Nothing) next (slot time t p k) d last h e = go (slot_fits time t p k) e
+next-tells (stage.Open l holds.Nothing) next (slotted s) d last h e = go (slot_fits s) e
   where
-    go : (b : Bool) → cond b (onward (stage.Open l holds.Slot)) (halt no.value_outside) ≡ onward next → Tells next d (the (slot time t p k))
-    go true e = moved (stage.Open l holds.Slot) next d (the (slot time t p k)) (cc) (h.0, (h.1.0, tt))
+    go : (b : Bool) → cond b (onward (stage.Open l holds.Slot)) (halt no.value_outside) ≡ onward next → Tells next d (the (slotted s))
+    go true e = moved (stage.Open l holds.Slot) next d (the (slotted s)) (cc) (h.0, (h.1.0, tt))
     go false e = apart (cc)
 next-tells (stage.Open l holds.Nothing) next closed d last h e = apart (cc)
 next-tells (stage.Open l holds.Nothing) next stray d last h e = apart (cc)
 next-tells (stage.Open zero holds.Groups) next opened d last h e = apart (cc)
 next-tells (stage.Open (suc l) holds.Groups) next opened d last h e =
     moved (stage.Open l holds.Nothing) next (suc d) (the opened) (cc) (omega arith, (omega (arith, h.1.0), refl))
-next-tells (stage.Open l holds.Groups) next (slot time t p k) d last h e = apart (cc)
+next-tells (stage.Open l holds.Groups) next (slotted s) d last h e = apart (cc)
 next-tells (stage.Open l holds.Groups) next closed d last h e = moved (up l) next (d - 1) (the closed) (cc) (up-tells l d h.0 h.1.0)
 next-tells (stage.Open l holds.Groups) next stray d last h e = apart (cc)
 next-tells (stage.Open l holds.Slot) next opened d last h e = apart (cc)
-next-tells (stage.Open l holds.Slot) next (slot time t p k) d last h e = apart (cc)
+next-tells (stage.Open l holds.Slot) next (slotted s) d last h e = apart (cc)
 next-tells (stage.Open l holds.Slot) next closed d last h e = moved (up l) next (d - 1) (the closed) (cc) (up-tells l d h.0 h.1.0)
 next-tells (stage.Open l holds.Slot) next stray d last h e = apart (cc)
 next-tells stage.Done next s d last h e = apart (cc)
@@ -89,15 +90,19 @@ next-tells stage.Done next s d last h e = apart (cc)
 pub reached-tells : (st end : Stage) (p : List Step) (d : ℕ) (last : Last) → Tells st d last → Reaches st p end → Tells end (open_from d p) (last_from last p)
 reached-tells st end [] d last h r = moved st end d last r h
 reached-tells st end (opened ∷ p) d last h r = reached-tells r.0 end p (suc d) (the opened) (next-tells st r.0 opened d last h r.1) r.2
-reached-tells st end (slot time t u k ∷ p) d last h r =
-    reached-tells r.0 end p d (the (slot time t u k)) (next-tells st r.0 (slot time t u k) d last h r.1) r.2
+reached-tells st end (slotted s ∷ p) d last h r =
+    reached-tells r.0 end p d (the (slotted s)) (next-tells st r.0 (slotted s) d last h r.1) r.2
 reached-tells st end (closed ∷ p) d last h r = reached-tells r.0 end p (d - 1) (the closed) (next-tells st r.0 closed d last h r.1) r.2
 reached-tells st end (stray ∷ p) d last h r = reached-tells r.0 end p d (the stray) (next-tells st r.0 stray d last h r.1) r.2
 
 -- ---- the number of a refused step
 
+abbrev number_in : Turn → ℕ
+number_in (Ok st) = 0
+number_in (Err r) = r.number
+
 number_of : (a n : ℕ) → halt a ≡ halt n → n ≡ a
-number_of a n e = cc
+number_of a n e = sym (ap number_in e)
 
 four-open : (d : ℕ) → d ≡ 4 → open_number d (the opened) ≡ no.too_deep
 four-open d e = rw e
@@ -108,26 +113,26 @@ four-closed d e = rw e
 slot-open : (d : ℕ) (last : Last) → IsSlot last → open_number d last ≡ no.tag_out_of_place
 slot-open d nothing h = absurd h
 slot-open d (the opened) h = absurd h
-slot-open d (the (slot time t p k)) h = refl
+slot-open d (the (slotted s)) h = refl
 slot-open d (the closed) h = absurd h
 slot-open d (the stray) h = absurd h
 
 slot-slot : (last : Last) → IsSlot last → slot_number last ≡ no.tag_out_of_place
 slot-slot nothing h = absurd h
 slot-slot (the opened) h = absurd h
-slot-slot (the (slot time t p k)) h = refl
+slot-slot (the (slotted s)) h = refl
 slot-slot (the closed) h = absurd h
 slot-slot (the stray) h = absurd h
 
 pub refused-number : (st : Stage) (s : Step) (d : ℕ) (last : Last) (n : ℕ) → Tells st d last → turn st s ≡ halt n → n ≡ number_for d last s
 unfolding turn
 refused-number stage.Start opened d last n h e = apart (cc)
-refused-number stage.Start (slot time t p k) d last n h e = number_of _ n e ∙ sym (ap slot_number h.1)
+refused-number stage.Start (slotted s) d last n h e = number_of _ n e ∙ sym (ap slot_number h.1)
 refused-number stage.Start closed d last n h e = number_of _ n e
 refused-number stage.Start stray d last n h e = number_of _ n e
 refused-number (stage.Open zero holds.Nothing) opened d last n h e = number_of _ n e ∙ sym (ap (open_number d) h.1.1 ∙ four-open d (omega (arith, h.1.0)))
 refused-number (stage.Open (suc l) holds.Nothing) opened d last n h e = apart (cc)
-refused-number (stage.Open l holds.Nothing) (slot time t p k) d last n h e = go (slot_fits time t p k) e
+refused-number (stage.Open l holds.Nothing) (slotted s) d last n h e = go (slot_fits s) e
   where
     go : (b : Bool) → cond b (onward (stage.Open l holds.Slot)) (halt no.value_outside) ≡ halt n → n ≡ slot_number last
     go true e = apart (cc)
@@ -136,15 +141,15 @@ refused-number (stage.Open l holds.Nothing) closed d last n h e = number_of _ n 
 refused-number (stage.Open l holds.Nothing) stray d last n h e = number_of _ n e
 refused-number (stage.Open zero holds.Groups) opened d last n h e = number_of _ n e ∙ sym (ap (open_number d) h.1.1 ∙ four-closed d (omega (arith, h.1.0)))
 refused-number (stage.Open (suc l) holds.Groups) opened d last n h e = apart (cc)
-refused-number (stage.Open l holds.Groups) (slot time t p k) d last n h e = number_of _ n e ∙ sym (ap slot_number h.1.1)
+refused-number (stage.Open l holds.Groups) (slotted s) d last n h e = number_of _ n e ∙ sym (ap slot_number h.1.1)
 refused-number (stage.Open l holds.Groups) closed d last n h e = apart (cc)
 refused-number (stage.Open l holds.Groups) stray d last n h e = number_of _ n e
 refused-number (stage.Open l holds.Slot) opened d last n h e = number_of _ n e ∙ sym (slot-open d last h.1.1)
-refused-number (stage.Open l holds.Slot) (slot time t p k) d last n h e = number_of _ n e ∙ sym (slot-slot last h.1.1)
+refused-number (stage.Open l holds.Slot) (slotted s) d last n h e = number_of _ n e ∙ sym (slot-slot last h.1.1)
 refused-number (stage.Open l holds.Slot) closed d last n h e = apart (cc)
 refused-number (stage.Open l holds.Slot) stray d last n h e = number_of _ n e
 refused-number stage.Done opened d last n h e = number_of _ n e ∙ sym (ap (open_number d) h.1 ∙ ap (λ x. open_number x (the closed)) h.0)
-refused-number stage.Done (slot time t p k) d last n h e = number_of _ n e ∙ sym (ap slot_number h.1)
+refused-number stage.Done (slotted s) d last n h e = number_of _ n e ∙ sym (ap slot_number h.1)
 refused-number stage.Done closed d last n h e = number_of _ n e
 refused-number stage.Done stray d last n h e = number_of _ n e
 

@@ -1,15 +1,15 @@
 -- A step's words say that step again, and so do those of all steps of a visit: for every step whose missing answers have a number other than 0.
-use Rattle.std.specs.Prelude.{ℕ, ◌<◌, List, [], ◌∷◌, ◌++◌, ◌≡◌, length}
-use Rattle.visit.specs.Steps.{Answer, value, missing, Step, opened, slot, closed, stray}
+use Rattle.std.specs.Prelude.{ℕ, ◌<◌, List, [], ◌∷◌, ◌++◌, ◌≡◌, length, Ok, Err}
+use Rattle.visit.specs.Steps.{Answer, Step, opened, slotted, closed, stray}
 use Rattle.visit.specs.Words.{words_each, words, words_of, step_from, from_words}
 
 abbrev pub Numbered : Answer → Type 0
-Numbered (value v) = Unit
-Numbered (missing n) = 0 < n
+Numbered (Ok v) = Unit
+Numbered (Err a) = 0 < a.number
 
 abbrev pub AllNumbered : Step → Type 0
 AllNumbered opened = Unit
-AllNumbered (slot time t p h) = Numbered t × (Numbered p × Numbered h)
+AllNumbered (slotted s) = Numbered s.temperature × (Numbered s.pressure × Numbered s.humidity)
 AllNumbered closed = Unit
 AllNumbered stray = Unit
 

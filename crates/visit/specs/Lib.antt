@@ -7,5 +7,6 @@ pub mod Tree
 pub mod Reader
 pub mod Writer
 pub mod Lent
+pub mod Answers
 pub mod Records
 pub mod Refusals

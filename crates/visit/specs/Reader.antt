@@ -1,6 +1,6 @@
 -- The reader, as the paper walks the bytes. A field is read off the front of the bytes up to its group's end. The offset is carried beside them and is looked at only in
 -- refusals. At each field the checks come in this order: 18 cut short, 19 tag out of place, 20 wrong length, 21 too deep, 22 value outside its limits.
-use Rattle.std.specs.Prelude.{ℕ, zero, suc, ◌+◌, ◌*◌, Bool, cond, ◌&&◌, List, [], ◌∷◌, ◌++◌, eqb, ltb, leb, length, get_or, take, drop}
+use Rattle.std.specs.Prelude.{ℕ, zero, suc, ◌+◌, ◌*◌, Bool, cond, ◌&&◌, List, [], ◌∷◌, ◌++◌, eqb, ltb, leb, length, get_or, take, drop, Ok, Err}
 use Rattle.visit.specs.declared.Place.{Place}
 use Rattle.visit.specs.declared.Place.TheVariants as place
 use Rattle.visit.specs.declared.Kind.{Kind}
@@ -117,8 +117,8 @@ walk f (suc fuel) (b ∷ s) at = on_group (f place.Group (b ∷ s) at) (λ s at.
 
 unfoldable pub body_from : (Place → List ℕ → ℕ → Field) → Field → Read
 body_from f (grouped held rest next) = joined held (walk f (length rest) rest next)
-body_from f (answered (value time) rest next) = slot_of time rest next
-body_from f (answered (missing n) rest next) = refused no.tag_out_of_place next
+body_from f (answered (Ok time) rest next) = slot_of time rest next
+body_from f (answered (Err a) rest next) = refused no.tag_out_of_place next
 body_from f (bad number offset) = refused number offset
 
 abbrev pub body_of : (Place → List ℕ → ℕ → Field) → List ℕ → ℕ → Read

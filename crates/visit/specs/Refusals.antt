@@ -1,7 +1,7 @@
 -- Where a list of steps is refused, and with which number: at the first step with which no record goes on, or at its end where it is none yet.
 -- The number is told by what stands before the step: how many groups are open, and which step came last.
 use Rattle.std.specs.Prelude.{ℕ, suc, ◌-◌, cond, List, [], ◌∷◌, ◌++◌, ◌⊎◌, ◌≡◌, eqb, length}
-use Rattle.visit.specs.Steps.{Step, opened, slot, closed, stray}
+use Rattle.visit.specs.Steps.{Step, opened, slotted, closed, stray}
 use Rattle.visit.specs.Tags as tag
 use Rattle.visit.specs.Words.{from_words}
 use Rattle.visit.specs.Tree.{Group, Valid, steps_of}
@@ -14,7 +14,7 @@ use Rattle.paper.specs.Numbers as no
 abbrev pub open_from : ℕ → List Step → ℕ
 open_from d [] = d
 open_from d (opened ∷ steps) = open_from (suc d) steps
-open_from d (slot time t p h ∷ steps) = open_from d steps
+open_from d (slotted s ∷ steps) = open_from d steps
 open_from d (closed ∷ steps) = open_from (d - 1) steps
 open_from d (stray ∷ steps) = open_from d steps
 
@@ -32,7 +32,7 @@ last_from last (step ∷ steps) = last_from (the step) steps
 abbrev pub open_number : ℕ → Last → ℕ
 open_number d nothing = no.tag_out_of_place
 open_number d (the opened) = cond (eqb d tag.levels) no.too_deep no.tag_out_of_place
-open_number d (the (slot time t p h)) = no.tag_out_of_place
+open_number d (the (slotted s)) = no.tag_out_of_place
 open_number d (the closed) = cond (eqb d tag.levels) no.too_deep no.tag_out_of_place
 open_number d (the stray) = no.tag_out_of_place
 
@@ -40,13 +40,13 @@ open_number d (the stray) = no.tag_out_of_place
 abbrev pub slot_number : Last → ℕ
 slot_number nothing = no.tag_out_of_place
 slot_number (the opened) = no.value_outside
-slot_number (the (slot time t p h)) = no.tag_out_of_place
+slot_number (the (slotted s)) = no.tag_out_of_place
 slot_number (the closed) = no.tag_out_of_place
 slot_number (the stray) = no.tag_out_of_place
 
 abbrev pub number_for : ℕ → Last → Step → ℕ
 number_for d last opened = open_number d last
-number_for d last (slot time t p h) = slot_number last
+number_for d last (slotted s) = slot_number last
 number_for d last closed = no.tag_out_of_place
 number_for d last stray = no.tag_out_of_place
 

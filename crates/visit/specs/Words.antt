@@ -1,7 +1,7 @@
 -- A list of steps as flat numbers, eight words a step: what it is, the time, and of each channel its number and its value.
 -- The number is 0 for a value, and else that of a missing answer, beside which no value is looked at.
-use Rattle.std.specs.Prelude.{ℕ, zero, suc, ◌/◌, cond, List, [], ◌∷◌, ◌++◌, eqb, length, get_or, drop}
-use Rattle.visit.specs.Steps.{Answer, value, missing, Step, opened, slot, closed, stray}
+use Rattle.std.specs.Prelude.{ℕ, zero, suc, ◌/◌, cond, List, [], ◌∷◌, ◌++◌, eqb, length, get_or, drop, Ok, Err}
+use Rattle.visit.specs.Steps.{Answer, value, missing, Step, opened, slot, slotted, closed, stray}
 
 abbrev pub words_each : ℕ
 words_each = 8
@@ -9,20 +9,22 @@ words_each = 8
 -- ---- a step's words
 
 abbrev pub number_word : Answer → ℕ
-number_word (value v) = 0
-number_word (missing n) = n
+number_word (Ok v) = 0
+number_word (Err a) = a.number
 
 abbrev pub value_word : Answer → ℕ
-value_word (value v) = v
-value_word (missing n) = 0
+value_word (Ok v) = v
+value_word (Err a) = 0
 
 abbrev pub mark_only : ℕ → List ℕ
 mark_only mark = mark ∷ 0 ∷ 0 ∷ 0 ∷ 0 ∷ 0 ∷ 0 ∷ 0 ∷ []
 
 unfoldable pub words : Step → List ℕ
 words opened = mark_only 1
-words (slot time t p h) =
-    2 ∷ time ∷ number_word t ∷ value_word t ∷ number_word p ∷ value_word p ∷ number_word h ∷ value_word h ∷ []
+words (slotted s) =
+    2 ∷ s.time ∷ number_word s.temperature ∷ value_word s.temperature
+    ∷ number_word s.pressure ∷ value_word s.pressure
+    ∷ number_word s.humidity ∷ value_word s.humidity ∷ []
 words closed = mark_only 3
 words stray = mark_only 0
 

@@ -1,6 +1,12 @@
-// Visit records: their types, tags and limits. What a record is, and how it is read and written, is defined in specs/. Nothing here runs.
+// Visit records: their types, tags and limits. What a record is, and how it is read and written, is defined in specs/.
 
 #![tactic(auto)]
+
+ghost use Rattle.std.specs.Prelude.{◌≡◌};
+ghost use Rattle.visit.specs.Tree.{tag_of, most};
+ghost use Rattle.visit.specs.declared.RecordError.TheVariants.{At};
+
+use paper::Refusal;
 
 // Tags. A value has the tag of its channel.
 pub const GROUP: u8 = 1;
@@ -49,7 +55,7 @@ pub const SLOT: u32 = 2;
 pub const CLOSE: u32 = 3;
 
 // The places that a field can stand at: where only a group may stand, first in a group, and in a slot after its time.
-#[derive(Clone, Copy)]
+#[derive(Clone, Copy, Debug, PartialEq, Eq)]
 pub enum Place {
     Group,
     First,
@@ -58,8 +64,36 @@ pub enum Place {
     Humidity,
 }
 
+impl Place {
+    // The tag of a value here.
+    // Where only a group may stand it is 0.
+    pub fn tag(self) -> u8
+        ensures { result ≡ tag_of self }
+    {
+        match self {
+            Place::Group => 0,
+            Place::First => TIME,
+            Place::Temperature => TEMPERATURE,
+            Place::Pressure => PRESSURE,
+            Place::Humidity => HUMIDITY,
+        }
+    }
+
+    // The largest value here.
+    // Where only a group may stand it is 0.
+    pub fn most(self) -> u32
+        ensures { result ≡ most self }
+    {
+        match self {
+            Place::Group => 0,
+            Place::First | Place::Temperature | Place::Pressure => u32::MAX,
+            Place::Humidity => MOST_HUMIDITY,
+        }
+    }
+}
+
 // What a tag means at a place.
-#[derive(Clone, Copy)]
+#[derive(Clone, Copy, Debug, PartialEq, Eq)]
 pub enum Kind {
     Group,
     Value,
@@ -68,29 +102,35 @@ pub enum Kind {
     Strange,
 }
 
-// A value's word, or the number of a missing answer. A temperature's word is its two's complement.
-#[derive(Clone, Copy)]
-pub enum Answer {
-    Value(u32),
-    Missing(u32),
+// The number of a missing answer. A lent list may have any word there, so that this is wider than what a channel's number can be.
+#[derive(Clone, Copy, Debug, PartialEq, Eq)]
+pub struct Absent {
+    pub number: u32,
+}
+
+// A value's word, or why there is none. A temperature's word is its two's complement.
+pub type Answer = Result<u32, Absent>;
+
+// A time and the answers of its three channels.
+#[derive(Clone, Copy, Debug, PartialEq, Eq)]
+pub struct Slot {
+    pub time: u32,
+    pub temperature: Answer,
+    pub pressure: Answer,
+    pub humidity: Answer,
 }
 
 // A visit is a list of these. A stray step is none that a visit can have.
-#[derive(Clone, Copy)]
+#[derive(Clone, Copy, Debug, PartialEq, Eq)]
 pub enum Step {
     Open,
-    Slot {
-        time: u32,
-        temperature: Answer,
-        pressure: Answer,
-        humidity: Answer,
-    },
+    Slot(Slot),
     Close,
     Stray,
 }
 
 // What the innermost open group holds so far.
-#[derive(Clone, Copy)]
+#[derive(Clone, Copy, Debug, PartialEq, Eq)]
 pub enum Holds {
     Nothing,
     Groups,
@@ -98,16 +138,34 @@ pub enum Holds {
 }
 
 // Where a list of steps stands: before the record, in a group under which so many levels may still be opened, or after the record.
-#[derive(Clone, Copy)]
+#[derive(Clone, Copy, Debug, PartialEq, Eq)]
 pub enum Stage {
     Start,
     Open(u8, Holds),
     Done,
 }
 
-// What a step makes of a stage: the next one, or the number that says why there is none.
-#[derive(Clone, Copy)]
-pub enum Turn {
-    Onward(Stage),
-    Halt(u8),
+// What a step makes of a stage: the next one, or why there is none.
+pub type Turn = Result<Stage, Refusal>;
+
+// A fault in a record: the paper's number, 18 to 22, and the offset of the field or the place of the step that has it.
+#[derive(Clone, Copy, Debug, PartialEq, Eq)]
+pub struct Fault {
+    pub number: u8,
+    pub place: usize,
+}
+
+// Why a record is not read or not written: it is refused as a whole, or for the first fault in it.
+#[derive(Clone, Copy, Debug, PartialEq, Eq)]
+pub enum RecordError {
+    Whole(Refusal),
+    At(Fault),
+}
+
+impl From<Fault> for RecordError {
+    ghost from_gives = { λ fault error. error ≡ At fault };
+
+    fn from(fault: Fault) -> RecordError {
+        RecordError::At(fault)
+    }
 }

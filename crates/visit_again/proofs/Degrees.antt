@@ -3,20 +3,20 @@ use Rattle.std.proofs.Common.{ℕ, zero, suc, ◌+◌, ◌-◌, ◌*◌, ◌/◌
 use native.Mathlib.Nat.{mod-lt}
 use Rattle.std.proofs.Common.{arith}
 use borrow.Author.Tests.{lt-ltb, le-ltb, le-leb, ltb-true, ltb-false, ne_eqb}
-use Rattle.std.proofs.Common.{Bool, true, false, cond}
+use Rattle.std.proofs.Common.{Bool, true, false}
 use Rattle.std.proofs.Common.{List, [], ◌∷◌, ◌++◌, append_assoc}
 use Rattle.std.proofs.Common.{◌≡◌, refl, ap, ◌∙◌}
-use Rattle.std.proofs.Common.{eqb, ltb}
-use Rattle.std.proofs.Common.{length, take, drop, length-append}
+use Rattle.std.proofs.Common.{ltb}
+use Rattle.std.proofs.Common.{length, drop, length-append, Some, Ok}
 use lib.Seq.{get_or-append_seam, get_or-append-add, drop-append-add}
 use Rattle.bench_page.specs.Page.{letters}
 use Rattle.bench_page.specs.Digits.{last_digit, spelled, decimal}
 use Rattle.bench_row.specs.Row.{filled_from}
+use Rattle.visit.specs.Steps.{value}
 use Rattle.visit_figures.specs.Figures as figures
-use Rattle.visit_typed.specs.declared.Typed.TheVariants.{Value}
-use Rattle.visit_typed.specs.Same.{same, same_on}
+use Rattle.visit_typed.specs.Same.{same}
 use Rattle.visit_typed.specs.Typed as typed
-use Rattle.visit_typed.specs.Typed.{digit, with_digit, digits_on, digit_at, past, part_on, is_decimal, is_point, amount, has_unit}
+use Rattle.visit_typed.specs.Typed.{digit, with_digit, digits_on, digit_at, part, part_on, is_decimal, is_point, amount}
 use Rattle.visit_again.proofs.Digits.{Long, by_size, one-digit, more-digits, digit-of, read-spelled, how-long}
 
 unit : List ℕ
@@ -42,45 +42,47 @@ module _ (s : List ℕ) (w x y : ℕ) where
         let h : length s < length text = omega (arith, long) in
         rw (lt-ltb (length s) (length text) h, get_or-append_seam s 46 (last_digit x ∷ last_digit y ∷ unit) 0)
 
-    first : digit_at text (length s + 1) ≡ x % 10
+    first : digit_at text (length s + 1) ≡ Some (x % 10)
     unfolding digit_at text tail
     first =
         let h : length s + 1 < length text = omega (arith, long) in
         rw (lt-ltb (length s + 1) (length text) h, get_or-append-add s tail 1 0) (digit-of (x % 10) (mod-lt x (omega arith)))
 
-    second : digit_at text (length s + 1 + 1) ≡ y % 10
+    second : digit_at text (length s + 1 + 1) ≡ Some (y % 10)
     unfolding digit_at text tail
     second =
         let e : length s + 1 + 1 ≡ length s + 2 = omega arith in
         let h : length s + 2 < length text = omega (arith, long) in
         rw (e, lt-ltb (length s + 2) (length text) h, get_or-append-add s tail 2 0) (digit-of (y % 10) (mod-lt y (omega arith)))
 
-    part : part_on text 2 0 (length s + 1) ≡ record { value = x % 10 * 10 + y % 10; end = length s + 3 }
-    unfolding part_on past with_digit
-    part =
+    decimals : part_on text 2 0 (length s + 1) ≡ record { value = x % 10 * 10 + y % 10; end = length s + 3 }
+    unfolding part_on with_digit
+    decimals =
         let hx : x % 10 < 10 = mod-lt x (omega arith) in
-        let hy : y % 10 < 10 = mod-lt y (omega arith) in
-        let ex : x % 10 % 10 ≡ x % 10 = omega arith in
-        let ey : y % 10 % 10 ≡ y % 10 = omega arith in
         let v : 0 * 10 + x % 10 < 10000000000 = omega arith in
         let value : (0 * 10 + x % 10) * 10 + y % 10 ≡ x % 10 * 10 + y % 10 = omega arith in
         let end : length s + 1 + 1 + 1 ≡ length s + 3 = omega arith in
-        rw (first, ex, lt-ltb (x % 10) 10 hx, second, ey, lt-ltb (y % 10) 10 hy, lt-ltb (0 * 10 + x % 10) 10000000000 v, value, end)
+        rw (first, second, lt-ltb (0 * 10 + x % 10) 10000000000 v, value, end)
+
+    both : part text (length s + 1) 2 ≡ Some (record { value = x % 10 * 10 + y % 10; end = length s + 3 })
+    unfolding part
+    both =
+        let h : length s + 1 < length s + 3 = omega arith in
+        rw (decimals, lt-ltb (length s + 1) (length s + 3) h)
 
     module _ (l : Long 9 s) where
-      read : amount text 2 ≡ record { whole = w; part = x % 10 * 10 + y % 10; end = length s + 3; written = true }
-      unfolding amount is_decimal
+      read : amount text 2 ≡ Some (record { whole = w; part = x % 10 * 10 + y % 10; end = length s + 3 })
+      unfolding amount typed.digits is_decimal
       read =
           let few : length s ≤ 10 = omega (arith, l.few) in
-          let h : length s + 1 < length s + 3 = omega arith in
-          rw (digits, point, part, le-ltb (length s) 1 l.some, le-leb (length s) 10 few, lt-ltb (length s + 1) (length s + 3) h)
+          rw (digits, le-ltb (length s) 1 l.some, le-leb (length s) 10 few, point, both)
 
       followed : same (drop (length s + 3) text) unit ≡ true
-      unfolding text tail unit same same_on
+      unfolding text tail unit
       followed = rw (drop-append-add s tail 3)
 
       as-degrees : (minus : Bool) → typed.degrees minus text ≡ typed.celsius minus w (x % 10 * 10 + y % 10)
-      unfolding typed.degrees has_unit unit
+      unfolding typed.degrees unit
       as-degrees minus = rw (read, followed)
 
 -- ---- what the text begins with
@@ -99,18 +101,12 @@ begins zero n = record { number = n; rest = []; is = refl }
 begins (suc more) n =
     by_size n (λ g. record { number = n; rest = []; is = one-digit (suc more) n g }) (λ g. onto more n g (begins more (n / 10)))
 
-either : (b : Bool) → cond b false false ≡ false
-either true = refl
-either false = refl
-
 not-missing : (m : ℕ) (t : List ℕ) → typed.is_missing (last_digit m ∷ t) ≡ false
-unfolding typed.is_missing same same_on
 not-missing m t =
     let h : m % 10 < 10 = mod-lt m (omega arith) in
-    rw (ne_eqb (48 + m % 10) 109 (λ e. omega arith)) (either (eqb (length (take 8 (last_digit m ∷ t))) 8))
+    rw (ne_eqb (48 + m % 10) 109 (λ e. omega arith))
 
 not-minus : (m : ℕ) (t : List ℕ) → typed.is_minus (last_digit m ∷ t) ≡ false
-unfolding typed.is_minus same same_on
 not-minus m t =
     let h : m % 10 < 10 = mod-lt m (omega arith) in
     rw (ne_eqb (48 + m % 10) 45 (λ e. omega arith))
@@ -152,46 +148,46 @@ module _ (n : ℕ) (h : n ≤ 0x80000000) where
   total : n / 100 * 100 + (n / 10 % 10 % 10 * 10 + n % 10 % 10) ≡ n
   total = omega arith
 
-  above : n ≤ 0x7FFFFFFF → typed.celsius false (n / 100) (n / 10 % 10 % 10 * 10 + n % 10 % 10) ≡ Value n
+  above : n ≤ 0x7FFFFFFF → typed.celsius false (n / 100) (n / 10 % 10 % 10 * 10 + n % 10 % 10) ≡ Ok (value n)
   unfolding typed.celsius
   above l = rw (total, le-ltb 0x7FFFFFFF n l)
 
-  below : (n ≡ 0 → ⊥) → typed.celsius true (n / 100) (n / 10 % 10 % 10 * 10 + n % 10 % 10) ≡ Value (0x100000000 - n)
+  below : (n ≡ 0 → ⊥) → typed.celsius true (n / 100) (n / 10 % 10 % 10 * 10 + n % 10 % 10) ≡ Ok (value (0x100000000 - n))
   unfolding typed.celsius typed.below_zero
   below z = rw (total, le-ltb 0x80000000 n h, ne_eqb n 0 z)
 
 -- ---- a temperature, above zero and below
 
 missing-not : (word : ℕ) → Begins (spelled 19 (word / 100)) → typed.is_missing (hundredths word) ≡ false
-unfolding decimal text tail typed.is_missing
+unfolding decimal text tail
 missing-not word b =
     rw (shown word, b.is) (not-missing b.number (b.rest ++ tail b.rest 0 (word / 10 % 10) (word % 10)))
 
 minus-not : (word : ℕ) → Begins (spelled 19 (word / 100)) → typed.is_minus (hundredths word) ≡ false
-unfolding decimal text tail typed.is_minus
+unfolding decimal text tail
 minus-not word b =
     rw (shown word, b.is) (not-minus b.number (b.rest ++ tail b.rest 0 (word / 10 % 10) (word % 10)))
 
-plain : (word : ℕ) → word < 0x80000000 → typed.temperature (hundredths word) ≡ Value word
+plain : (word : ℕ) → word < 0x80000000 → typed.temperature (hundredths word) ≡ Ok (value word)
 unfolding typed.temperature
 plain word h =
     let b = begins 19 (word / 100) in
     rw (missing-not word b, minus-not word b) (read-degrees word (omega arith) false ∙ above word (omega arith) (omega arith))
 
 minus-text : (r : List ℕ) → typed.temperature (45 ∷ r) ≡ typed.degrees true r
-unfolding typed.temperature typed.is_missing typed.is_minus same same_on
-minus-text r = rw (either (eqb (length (take 8 (45 ∷ r))) 8))
+unfolding typed.temperature
+minus-text r = refl
 
-signed : (word : ℕ) → 0x80000000 ≤ word → word ≤ 0xFFFFFFFF → typed.temperature (45 ∷ hundredths (0xFFFFFFFF - word + 1)) ≡ Value word
+signed : (word : ℕ) → 0x80000000 ≤ word → word ≤ 0xFFFFFFFF → typed.temperature (45 ∷ hundredths (0xFFFFFFFF - word + 1)) ≡ Ok (value word)
 signed word g h =
     let n = 0xFFFFFFFF - word + 1 in
     let e : 0x100000000 - n ≡ word = omega arith in
-    minus-text (hundredths n) ∙ read-degrees n (omega arith) true ∙ below n (omega arith) (λ z. omega arith) ∙ ap Value e
+    minus-text (hundredths n) ∙ read-degrees n (omega arith) true ∙ below n (omega arith) (λ z. omega arith) ∙ ap (λ (n : ℕ). Ok (value n)) e
 
-pub warm-or-cold : (word : ℕ) → word ≤ 0xFFFFFFFF → typed.temperature (figures.temperature word) ≡ Value word
+pub warm-or-cold : (word : ℕ) → word ≤ 0xFFFFFFFF → typed.temperature (figures.temperature word) ≡ Ok (value word)
 unfolding figures.temperature figures.degrees
 warm-or-cold word h = by (ltb word 0x80000000) refl
   where
-    by : (b : Bool) → ltb word 0x80000000 ≡ b → typed.temperature (figures.temperature word) ≡ Value word
+    by : (b : Bool) → ltb word 0x80000000 ≡ b → typed.temperature (figures.temperature word) ≡ Ok (value word)
     by true e = rw e (plain word (ltb-true word 0x80000000 e))
     by false e = rw e (signed word (ltb-false word 0x80000000 e) h)

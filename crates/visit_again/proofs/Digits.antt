@@ -1,5 +1,5 @@
 -- The digits of a number, read one after another, are the number.
-use Rattle.std.proofs.Common.{ℕ, zero, suc, ◌+◌, ◌*◌, ◌/◌, ◌%◌, ◌≤◌, ◌<◌}
+use Rattle.std.proofs.Common.{ℕ, zero, suc, ◌+◌, ◌-◌, ◌*◌, ◌/◌, ◌%◌, ◌≤◌, ◌<◌}
 use native.Mathlib.Nat.{mod-lt}
 use Rattle.std.proofs.Common.{arith}
 use borrow.Author.Tests.{lt-ltb, le-ltb, le-leb, ltb-true, ltb-false}
@@ -7,7 +7,7 @@ use Rattle.std.proofs.Common.{Bool, true, false}
 use Rattle.std.proofs.Common.{List, [], ◌∷◌, ◌++◌, append_assoc}
 use Rattle.std.proofs.Common.{◌≡◌, refl, ap, ◌∙◌}
 use Rattle.std.proofs.Common.{ltb}
-use Rattle.std.proofs.Common.{length, length-append}
+use Rattle.std.proofs.Common.{length, length-append, Some}
 use Rattle.bench_page.specs.Digits.{last_digit, spelled}
 use Rattle.visit_typed.specs.Typed.{digit, with_digit, digits_on}
 
@@ -32,20 +32,20 @@ pub more-digits : (more n : ℕ) → 10 ≤ n → spelled (suc more) n ≡ spell
 unfolding spelled
 more-digits more n h = rw (le-ltb n 10 h)
 
-pub digit-of : (d : ℕ) → d < 10 → digit (48 + d) ≡ d
+pub digit-of : (d : ℕ) → d < 10 → digit (48 + d) ≡ Some d
 unfolding digit
 digit-of d h =
     let low : 48 ≤ 48 + d = omega arith in
     let high : 48 + d ≤ 57 = omega arith in
-    rw (le-ltb (48 + d) 48 low, le-leb (48 + d) 57 high) (omega arith)
+    let e : 48 + d - 48 ≡ d = omega arith in
+    rw (le-ltb (48 + d) 48 low, le-leb (48 + d) 57 high, e)
 
 module _ (value n : ℕ) (rest : List ℕ) (at : ℕ) where
   next : value < 10000000000 → digits_on value (last_digit n ∷ rest) at ≡ digits_on (value * 10 + n % 10) rest (at + 1)
   unfolding digits_on with_digit
   next h =
       let d : n % 10 < 10 = mod-lt n (omega arith) in
-      let nine : n % 10 ≤ 9 = omega arith in
-      rw (digit-of (n % 10) d, le-ltb 9 (n % 10) nine, lt-ltb value 10000000000 h)
+      rw (digit-of (n % 10) d, lt-ltb value 10000000000 h)
 
 alone : (more n : ℕ) (rest : List ℕ) (at : ℕ) → n < 10 → digits_on 0 (spelled more n ++ rest) at ≡ digits_on n rest (at + length (spelled more n))
 alone more n rest at h =

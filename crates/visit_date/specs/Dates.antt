@@ -1,5 +1,5 @@
 -- The calendar: years from 1970 on and the months of a year are counted off one by one, as long as the days last.
-use Rattle.std.specs.Prelude.{ℕ, zero, suc, ◌+◌, ◌-◌, ◌/◌, ◌%◌, Bool, true, false, cond, eqb, ltb}
+use Rattle.std.specs.Prelude.{ℕ, zero, suc, ◌+◌, ◌-◌, ◌/◌, ◌%◌, ◌^◌, ◌<◌, ◌≡◌, Bool, true, false, cond, eqb, ltb}
 use Rattle.visit_date.specs.declared.Moment.{Moment}
 use Rattle.visit_date.specs.declared.Walked.{Walked}
 
@@ -20,6 +20,10 @@ unfoldable pub walk : (ℕ → ℕ) → ℕ → ℕ → ℕ → Walked
 walk days zero n left = record { number = n; left = left }
 walk days (suc more) n left =
     cond (ltb left (days n)) (record { number = n; left = left }) (walk days more (n + 1) (left - days n))
+
+-- what the calls of a closure give is a function of the number: how many days a year or a month has
+abbrev pub Counts : (ℕ → ℕ → Type 0) → (ℕ → ℕ) → Type 0
+Counts gives days = (n size : ℕ) → n < 2 ^ 64 → gives n size → size ≡ days n
 
 -- 136 years after 1970 is 2106, the last year that 32 bits of seconds reach
 abbrev pub year_of : ℕ → Walked

@@ -7,6 +7,8 @@ use borrow.Author.Tests.{leb-true}
 use lib.Dec.{eqb, ltb, leb}
 use lib.ListN.{length, get_or}
 use Rattle.laws.specs.Choices.{pick}
+use Rattle.std.specs.Prelude.{Result, Ok, Err}
+use Rattle.visit.specs.declared.Fault.{Fault}
 use Rattle.visit.specs.declared.Place.{Place}
 use Rattle.visit.specs.declared.Kind.{Kind}
 use Rattle.visit.specs.declared.Kind.TheVariants as kind
@@ -14,13 +16,13 @@ use Rattle.visit.specs.Tags as tag
 use Rattle.visit.specs.Tree.{tag_of, most}
 use Rattle.visit.specs.Reader.{kind_of}
 use Rattle.visit_field.specs.declared.Front.{Front}
-use Rattle.visit_field.specs.declared.Front.TheVariants.{Group, Told, Refused}
+use Rattle.visit_field.specs.declared.Front.TheVariants.{Group, Told}
 use Rattle.visit_field.specs.Front.{word_at, size_at, value_at, pascals_at, missing_at, by_kind_at, whole_at, front_at}
 
-abbrev pub Moves : ℕ → ℕ → Front → Type 0
-Moves at end (Group next) = (at + 3 ≤ next) × (next ≤ end)
-Moves at end (Told a next) = (at + 3 ≤ next) × (next ≤ end)
-Moves at end (Refused number offset) = Unit
+abbrev pub Moves : ℕ → ℕ → Result Front Fault → Type 0
+Moves at end (Ok (Group next)) = (at + 3 ≤ next) × (next ≤ end)
+Moves at end (Ok (Told a next)) = (at + 3 ≤ next) × (next ≤ end)
+Moves at end (Err f) = Unit
 
 module _ (p : Place) (s : List ℕ) (at n end : ℕ) (h : at + 3 + n ≤ end) where
   value-moves : Moves at end (value_at p s at n)

@@ -4,59 +4,52 @@
 ghost use Rattle.std.specs.Prelude.{◌≡◌, ◌&&◌, ◌+◌, ◌≤◌, leb, length};
 ghost use Rattle.visit_field.specs.Front.{whole_at, front_at};
 
-use visit::{Answer, Place};
+use visit::{Answer, Fault, Place};
 
-mod numbers;
 mod tags;
 mod values;
 
-// A group with its body still unread, or an answer, and where the next field stands; or a number and an offset.
-#[derive(Drop)]
+// A group with its body still unread, or an answer, and where the next field stands.
+#[derive(Clone, Copy, Debug, PartialEq, Eq)]
 pub enum Front {
     Group { next: usize },
     Told { answer: Answer, next: usize },
-    Refused { number: u8, offset: usize },
 }
 
 // Whether a header at the offset stands in a group that ends at `end`, and that in so many bytes.
 fn header_fits(at: usize, end: usize, whole: usize) -> bool
     ensures { result ≡ (leb end whole && leb (at + 3) end) }
 {
-    if whole < end {
-        return false;
-    }
-    if end < at {
-        return false;
-    }
-    3 <= end - at
+    end <= whole && at <= end && visit::HEADER <= end - at
 }
 
 // A field whose header is there: 18 where its body is cut short, and otherwise by what its tag means.
-fn field_of(bytes: &[u8], at: usize, end: usize, place: Place) -> Front
+#[tactic(auto, unfolding(crate::specs::Front::whole_at))]
+fn field_of(bytes: &[u8], at: usize, end: usize, place: Place) -> Result<Front, Fault>
     requires { (at + 3 ≤ end) × (end ≤ length bytes.now) }
     ensures { result ≡ whole_at place bytes.now end at }
 {
-    let n = numbers::wide(bytes[at + 1]) * 256 + numbers::wide(bytes[at + 2]);
-    if end - (at + 3) < n {
-        return Front::Refused {
+    let n = usize::from(bytes[at + 1]) * 256 + usize::from(bytes[at + 2]);
+    if end - (at + visit::HEADER) < n {
+        return Err(Fault {
             number: paper::CUT_SHORT,
-            offset: at,
-        };
+            place: at,
+        });
     }
-    let tag = bytes[at];
-    values::by_kind(bytes, at, n, place, tags::kind_of(place, tag))
+    values::by_kind(bytes, at, n, place, tags::kind_of(place, bytes[at]))
 }
 
 // The front of the field at an offset, in a group that ends at `end`: 18, then 19, then 20, then 22.
 // Where no header fits between them, or the group ends past the record, it is 18.
-pub fn front_at(bytes: &[u8], at: usize, end: usize, place: Place) -> Front
+#[tactic(auto, unfolding(crate::specs::Front::front_at))]
+pub fn front_at(bytes: &[u8], at: usize, end: usize, place: Place) -> Result<Front, Fault>
     ensures { result ≡ front_at place bytes.now end at }
 {
     if header_fits(at, end, bytes.len()) {
         return field_of(bytes, at, end, place);
     }
-    Front::Refused {
+    Err(Fault {
         number: paper::CUT_SHORT,
-        offset: at,
-    }
+        place: at,
+    })
 }

@@ -16,7 +16,10 @@ pub const PERCENT: u32 = 1024;
 // The most decimals that a part of a unit has.
 pub const DECIMALS: u32 = 10;
 
+// Each channel is its figure and its unit: one function that took the figure's writer as a closure would be no shorter.
+
 // Writes a temperature: hundredths of a degree, in two's complement.
+#[tactic(auto, using(bench_page::proofs::Laws::joined), unfolding(crate::specs::Figures::temperature))]
 pub fn write_temperature(word: u32, out: &mut [u8], at: usize) -> usize
     ensures { (out.new, result) ≡ (out.old, at) ▹ text.temperature word }
 {
@@ -25,6 +28,7 @@ pub fn write_temperature(word: u32, out: &mut [u8], at: usize) -> usize
 }
 
 // Writes a pressure.
+#[tactic(auto, using(bench_page::proofs::Laws::joined), unfolding(crate::specs::Figures::pressure))]
 pub fn write_pressure(word: u32, out: &mut [u8], at: usize) -> usize
     ensures { (out.new, result) ≡ (out.old, at) ▹ text.pressure word }
 {
@@ -33,6 +37,7 @@ pub fn write_pressure(word: u32, out: &mut [u8], at: usize) -> usize
 }
 
 // Writes a humidity.
+#[tactic(auto, using(bench_page::proofs::Laws::joined), unfolding(crate::specs::Figures::humidity))]
 pub fn write_humidity(word: u32, out: &mut [u8], at: usize) -> usize
     ensures { (out.new, result) ≡ (out.old, at) ▹ text.humidity word }
 {
@@ -41,6 +46,7 @@ pub fn write_humidity(word: u32, out: &mut [u8], at: usize) -> usize
 }
 
 // Writes hundredths of a degree with two decimals, and no unit.
+#[tactic(auto, unfolding(crate::specs::Figures::hundredths))]
 pub fn write_hundredths(n: u64, out: &mut [u8], at: usize) -> usize
     ensures { (out.new, result) ≡ (out.old, at) ▹ text.hundredths n }
 {
@@ -48,6 +54,7 @@ pub fn write_hundredths(n: u64, out: &mut [u8], at: usize) -> usize
 }
 
 // Writes a pressure with no unit.
+#[tactic(auto, unfolding(crate::specs::Figures::pascals))]
 pub fn write_pascals(word: u32, out: &mut [u8], at: usize) -> usize
     ensures { (out.new, result) ≡ (out.old, at) ▹ text.pascals word }
 {
@@ -55,6 +62,7 @@ pub fn write_pascals(word: u32, out: &mut [u8], at: usize) -> usize
 }
 
 // Writes a humidity with no unit.
+#[tactic(auto, unfolding(crate::specs::Figures::percent))]
 pub fn write_percent(word: u32, out: &mut [u8], at: usize) -> usize
     ensures { (out.new, result) ≡ (out.old, at) ▹ text.percent word }
 {
@@ -62,6 +70,7 @@ pub fn write_percent(word: u32, out: &mut [u8], at: usize) -> usize
 }
 
 // Writes a missing answer: its number, and its reason where it has one.
+#[tactic(auto, using(bench_page::proofs::Laws::joined), unfolding(crate::specs::Figures::missing))]
 pub fn write_missing(number: u32, out: &mut [u8], at: usize) -> usize
     ensures { (out.new, result) ≡ (out.old, at) ▹ text.missing number }
 {
@@ -70,20 +79,23 @@ pub fn write_missing(number: u32, out: &mut [u8], at: usize) -> usize
 }
 
 // Writes why an answer is missing: a space and the reason in brackets, or nothing where the number has none.
+#[tactic(auto, unfolding(crate::specs::Figures::reason))]
 pub fn write_reason(number: u32, out: &mut [u8], at: usize) -> usize
     ensures { (out.new, result) ≡ (out.old, at) ▹ text.reason number }
 {
-    match number {
-        10 => bench_page::write_text(b" (channel skipped)", out, at),
-        11 => bench_page::write_text(b" (no temperature to compensate with)", out, at),
-        12 => bench_page::write_text(b" (a step left its type)", out, at),
-        13 => bench_page::write_text(b" (divisor zero)", out, at),
-        14 => bench_page::write_text(b" (pressure negative or above 4,294,967,295)", out, at),
-        _ => at,
-    }
+    let reason: &[u8] = match number {
+        10 => b" (channel skipped)",
+        11 => b" (no temperature to compensate with)",
+        12 => b" (a step left its type)",
+        13 => b" (divisor zero)",
+        14 => b" (pressure negative or above 4,294,967,295)",
+        _ => b"",
+    };
+    bench_page::write_text(reason, out, at)
 }
 
 // Writes a temperature with no unit.
+#[tactic(auto, using(crate::proofs::Laws::first), unfolding(crate::specs::Figures::degrees))]
 fn write_degrees(word: u32, out: &mut [u8], at: usize) -> usize
     ensures { (out.new, result) ≡ (out.old, at) ▹ text.degrees word }
 {
@@ -95,6 +107,7 @@ fn write_degrees(word: u32, out: &mut [u8], at: usize) -> usize
 }
 
 // Writes an amount that counts parts of a unit: the whole units, and a point and the decimals of the rest where there is one.
+#[tactic(auto, using(bench_page::proofs::Laws::joined, crate::proofs::Laws::first), unfolding(crate::specs::Figures::amount))]
 fn write_amount(word: u32, unit: u32, out: &mut [u8], at: usize) -> usize
     requires { (0 < unit) × (unit < 65536) }
     ensures { (out.new, result) ≡ (out.old, at) ▹ text.amount word unit }
@@ -113,15 +126,13 @@ fn write_part(part: u32, unit: u32, out: &mut [u8], at: usize) -> usize
     ensures { (out.new, result) ≡ (out.old, at) ▹ text.decimals 10 part unit }
 {
     let mut left = part;
-    let mut turns = DECIMALS;
     let mut next = at;
-    while turns > 0 {
+    for _done in 0..DECIMALS {
         if left == 0 {
-            return next;
+            break;
         }
         next = bench_page::write_byte(digit(left * 10 / unit), out, next);
         left = left * 10 % unit;
-        turns -= 1;
     }
     next
 }
@@ -130,5 +141,5 @@ fn write_part(part: u32, unit: u32, out: &mut [u8], at: usize) -> usize
 fn digit(n: u32) -> u8
     ensures { result ≡ text.digit n }
 {
-    (48 + n % 10) as u8
+    b'0' + (n % 10) as u8
 }

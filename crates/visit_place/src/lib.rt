@@ -10,7 +10,7 @@ use visit::Step;
 const MOST: u32 = 65535;
 
 // Where a walk over steps stands: how many groups are open, and how many groups of each level the one around them has so far.
-#[derive(Clone, Copy)]
+#[derive(Clone, Copy, Debug, PartialEq, Eq)]
 pub struct Place {
     pub level: u8,
     pub house: u32,
@@ -20,6 +20,7 @@ pub struct Place {
 }
 
 // Before the first step.
+#[tactic(auto, unfolding(crate::specs::Places::start))]
 pub fn start() -> Place
     ensures { result ≡ places.start }
 {
@@ -33,37 +34,33 @@ pub fn start() -> Place
 }
 
 // Where the walk stands after a step.
+#[tactic(auto, unfolding(crate::specs::Places::after))]
 pub fn after(place: Place, step: Step) -> Place
     ensures { result ≡ places.after place step }
 {
     match step {
-        Step::Open => return deeper(place),
-        Step::Close => return back(place),
-        Step::Slot {
-            time: _,
-            temperature: _,
-            pressure: _,
-            humidity: _,
-        } => return place,
-        Step::Stray => return place,
+        Step::Open => deeper(place),
+        Step::Close => back(place),
+        Step::Slot { .. } | Step::Stray => place,
     }
 }
 
 // The number of the innermost open group among its brothers.
+#[tactic(auto, unfolding(crate::specs::Places::number))]
 pub fn number(place: Place) -> u32
     ensures { result ≡ places.number place }
 {
-    let level = place.level;
-    match level {
-        1 => return place.house,
-        2 => return place.floor,
-        3 => return place.room,
-        4 => return place.reading,
-        _ => return 0,
+    match place.level {
+        1 => place.house,
+        2 => place.floor,
+        3 => place.room,
+        4 => place.reading,
+        _ => 0,
     }
 }
 
 // One group more.
+#[tactic(auto, unfolding(crate::specs::Places::one_more))]
 fn one_more(n: u32) -> u32
     ensures { result ≡ places.one_more n }
 {
@@ -72,49 +69,45 @@ fn one_more(n: u32) -> u32
 
 // One group more is open, and is counted among its brothers; in it there is none yet.
 // Four levels is all that a record has.
+#[tactic(auto, unfolding(crate::specs::Places::deeper, crate::specs::Places::start))]
 fn deeper(place: Place) -> Place
     ensures { result ≡ places.deeper place }
 {
-    let level = place.level;
-    match level {
-        0 => return Place {
+    match place.level {
+        0 => Place {
             level: 1,
             house: one_more(place.house),
-            floor: 0,
-            room: 0,
-            reading: 0,
+            ..start()
         },
-        1 => return Place {
+        1 => Place {
             level: 2,
-            house: place.house,
             floor: one_more(place.floor),
             room: 0,
             reading: 0,
+            ..place
         },
-        2 => return Place {
+        2 => Place {
             level: 3,
-            house: place.house,
-            floor: place.floor,
             room: one_more(place.room),
             reading: 0,
+            ..place
         },
-        3 => return Place {
+        3 => Place {
             level: 4,
-            house: place.house,
-            floor: place.floor,
-            room: place.room,
             reading: one_more(place.reading),
+            ..place
         },
-        _ => return place,
+        _ => place,
     }
 }
 
 // The innermost open group is closed.
-fn back(mut place: Place) -> Place
+#[tactic(auto, unfolding(crate::specs::Places::back))]
+fn back(place: Place) -> Place
     ensures { result ≡ places.back place }
 {
-    if place.level > 0 {
-        place.level -= 1;
+    Place {
+        level: place.level.saturating_sub(1),
+        ..place
     }
-    place
 }

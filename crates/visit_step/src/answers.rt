@@ -1,26 +1,17 @@
 // A channel's two words, both ways.
-ghost use Rattle.std.specs.Prelude.{◌≡◌};
+ghost use Rattle.std.specs.Prelude.{◌≡◌, [], ◌∷◌};
 ghost use Rattle.visit.specs.Words as to;
 
-use visit::Answer;
+use visit::{Absent, Answer};
 
-// 0 for a value, and the number of a missing answer.
-pub(crate) fn number_word(a: Answer) -> u32
-    ensures { result ≡ to.number_word a }
+// The channel's number and its value.
+// The number is 0 for a value, and the value of a missing answer is 0.
+pub(crate) fn words(answer: Answer) -> [u32; 2]
+    ensures { result ≡ to.number_word answer ∷ to.value_word answer ∷ [] }
 {
-    match a {
-        Answer::Value(v) => 0,
-        Answer::Missing(n) => n,
-    }
-}
-
-// The value, and 0 for a missing answer.
-pub(crate) fn value_word(a: Answer) -> u32
-    ensures { result ≡ to.value_word a }
-{
-    match a {
-        Answer::Value(v) => v,
-        Answer::Missing(n) => 0,
+    match answer {
+        Ok(value) => [0, value],
+        Err(absent) => [absent.number, 0],
     }
 }
 
@@ -29,7 +20,7 @@ pub(crate) fn answer_from(number: u32, value: u32) -> Answer
     ensures { result ≡ to.answer_from number value }
 {
     if number == 0 {
-        return Answer::Value(value);
+        return Ok(value);
     }
-    Answer::Missing(number)
+    Err(Absent { number })
 }

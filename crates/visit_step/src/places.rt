@@ -1,56 +1,33 @@
-// Eight words of a lent list, from an index on.
-ghost use Rattle.std.specs.Prelude.{◌≡◌, ◌+◌, ◌≤◌, length, drop};
+// Eight words at the front of a list, as a step.
+ghost use Rattle.std.specs.Prelude.{◌≡◌, ◌≤◌, length};
 ghost use Rattle.visit.specs.Words.{slot_from, step_from};
-ghost use Rattle.visit_step.specs.Places.{over};
 
 use crate::answers;
-use visit::Step;
+use visit::{Slot, Step};
 
-// The slot that eight words from the index on say, whatever the first of them is.
-fn slot_from(list: &[u32], at: usize) -> Step
-    requires { at + 8 ≤ length list.now }
-    ensures { result ≡ slot_from (drop at list.now) }
+// The slot that the first eight words say, whatever the first of them is.
+fn slot_from(words: &[u32]) -> Step
+    requires { 8 ≤ length words.now }
+    ensures { result ≡ slot_from words.now }
 {
-    let temperature = answers::answer_from(list[at + 2], list[at + 3]);
-    let pressure = answers::answer_from(list[at + 4], list[at + 5]);
-    let humidity = answers::answer_from(list[at + 6], list[at + 7]);
-    Step::Slot {
-        time: list[at + 1],
-        temperature,
-        pressure,
-        humidity,
-    }
+    Step::Slot(Slot {
+        time: words[1],
+        temperature: answers::answer_from(words[2], words[3]),
+        pressure: answers::answer_from(words[4], words[5]),
+        humidity: answers::answer_from(words[6], words[7]),
+    })
 }
 
-// The step that eight words from the index on say.
-pub(crate) fn step_from(list: &[u32], at: usize) -> Step
-    requires { at + 8 ≤ length list.now }
-    ensures { result ≡ step_from (drop at list.now) }
+// The step that the first eight words say.
+#[tactic(auto, unfolding(visit::specs::Words::step_from))]
+pub(crate) fn step_from(words: &[u32]) -> Step
+    requires { 8 ≤ length words.now }
+    ensures { result ≡ step_from words.now }
 {
-    let mark = list[at];
-    if mark == visit::OPEN {
-        return Step::Open;
+    match words[0] {
+        visit::OPEN => Step::Open,
+        visit::SLOT => slot_from(words),
+        visit::CLOSE => Step::Close,
+        _ => Step::Stray,
     }
-    if mark == visit::SLOT {
-        return slot_from(list, at);
-    }
-    if mark == visit::CLOSE {
-        return Step::Close;
-    }
-    Step::Stray
-}
-
-// Eight words in the place of eight, from the index on.
-pub(crate) fn lay_words(w: [u32; 8], at: usize, list: &mut [u32])
-    requires { (length w ≡ 8) × (at + 8 ≤ length list.old) }
-    ensures { list.new ≡ over w at list.old }
-{
-    list[at] = w[0];
-    list[at + 1] = w[1];
-    list[at + 2] = w[2];
-    list[at + 3] = w[3];
-    list[at + 4] = w[4];
-    list[at + 5] = w[5];
-    list[at + 6] = w[6];
-    list[at + 7] = w[7];
 }

@@ -1,6 +1,6 @@
 -- A small visit as text, by the definitions.
 use Rattle.std.specs.Prelude.{List, [], ◌∷◌, ◌++◌, ◌≡◌, refl, ℕ}
-use Rattle.visit.specs.declared.Answer.TheVariants.{Value as value, Missing as gone}
+use Rattle.visit.specs.Steps.{value, missing as gone}
 use Rattle.visit.specs.declared.Step.{Step}
 use Rattle.visit.specs.declared.Step.TheVariants.{Open as opened, Slot as slot, Close as closed}
 use Rattle.visit_date.specs.Dates as dates
@@ -28,6 +28,6 @@ pub as-text :
     (line (letters "    pressure 0 Pa")
     (line (letters "    humidity missing 10 (channel skipped)") [])))))
 unfolding shown.text_from place.start place.after place.deeper place.back place.one_more place.number shown.lines shown.group shown.group_form shown.named
-    shown.time shown.missing shown.temperature shown.pressure shown.humidity figures.temperature figures.degrees figures.hundredths figures.pressure figures.pascals figures.humidity figures.percent
+    shown.time shown.missing shown.temperature shown.pressure shown.humidity shown.answered figures.temperature figures.degrees figures.hundredths figures.pressure figures.pascals figures.humidity figures.percent
     figures.amount figures.decimals figures.missing figures.reason dates.date dates.walk dates.year_days dates.month_days dates.is_leap filled_from spelt.decimal spelt.spelled
 as-text = refl

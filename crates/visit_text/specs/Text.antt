@@ -1,7 +1,6 @@
 -- A visit as text, step by step. A group's line has its name and its number among its brothers; a slot has four lines, one level deeper.
-use Rattle.std.specs.Prelude.{ℕ, ◌*◌, ◌/◌, ◌%◌, cond, List, [], ◌∷◌, ◌++◌, eqb, take}
-use Rattle.visit.specs.declared.Answer.{Answer}
-use Rattle.visit.specs.declared.Answer.TheVariants.{Value as value, Missing as gone}
+use Rattle.std.specs.Prelude.{ℕ, ◌*◌, ◌/◌, ◌%◌, ◌^◌, ◌<◌, ◌≡◌, cond, List, [], ◌∷◌, ◌++◌, eqb, take, Ok, Err}
+use Rattle.visit.specs.Steps.{Answer}
 use Rattle.visit.specs.declared.Step.{Step}
 use Rattle.visit.specs.declared.Step.TheVariants.{Open as opened, Slot as slot, Close as closed, Stray as stray}
 use Rattle.visit_place.specs.Places.{start, after, number}
@@ -9,7 +8,8 @@ use Rattle.visit_place.specs.declared.Place.{Place}
 use Rattle.visit_date.specs.Dates.{date}
 use Rattle.visit_date.specs.declared.Moment.{Moment}
 use Rattle.visit_figures.specs.Figures as figures
-use Rattle.bench_page.specs.Page.{letters}
+use Rattle.bench_page.specs.Page.{letters, written}
+use denote.Ref.{MutBor}
 use Rattle.bench_row.specs.Row.{filled}
 
 abbrev pub newline : List ℕ
@@ -50,17 +50,27 @@ unfoldable pub missing : ℕ → List ℕ
 missing number = figures.missing number ++ newline
 
 abbrev pub answer : (ℕ → List ℕ) → Answer → List ℕ
-answer shown (value word) = shown word ++ newline
-answer shown (gone number) = missing number
+answer shown (Ok word) = shown word ++ newline
+answer shown (Err absent) = missing absent.number
+
+-- the line of an answer, from its name and how a value of its channel is shown
+unfoldable pub answered : ℕ → List ℕ → (ℕ → List ℕ) → Answer → List ℕ
+answered level name shown a = named level name ++ answer shown a
+
+-- a closure that writes a value as it is shown
+abbrev pub Shows : (ℕ → MutBor (List ℕ) → ℕ → ℕ → MutBor (List ℕ) → Type 0) → (ℕ → List ℕ) → Type 0
+Shows writes shown =
+    (word at next : ℕ) (page after : MutBor (List ℕ)) → word < 2 ^ 32 → at < 2 ^ 64 → writes word page at next after
+    → (after.now, next) ≡ written (shown word) (page.now, at)
 
 unfoldable pub temperature : ℕ → Answer → List ℕ
-temperature level a = named level (letters "temperature ") ++ answer figures.temperature a
+temperature level a = answered level (letters "temperature ") figures.temperature a
 
 unfoldable pub pressure : ℕ → Answer → List ℕ
-pressure level a = named level (letters "pressure ") ++ answer figures.pressure a
+pressure level a = answered level (letters "pressure ") figures.pressure a
 
 unfoldable pub humidity : ℕ → Answer → List ℕ
-humidity level a = named level (letters "humidity ") ++ answer figures.humidity a
+humidity level a = answered level (letters "humidity ") figures.humidity a
 
 -- ---- the lines of a step, where the walk stands at a place after it
 

@@ -1,5 +1,5 @@
 // Digits read one after another.
-ghost use Rattle.std.specs.Prelude.{◌≡◌, ◌<◌, ◌≤◌, length as size};
+ghost use Rattle.std.specs.Prelude.{◌≡◌, ◌<◌, IfSome, length as size};
 ghost use Rattle.visit_typed.specs.Typed as typed;
 
 // The number that digits make, and the place after them.
@@ -12,88 +12,84 @@ pub struct Digits {
 // Ten digits make a number below this. One that is not takes no digit more.
 pub const TEN_DIGITS: u64 = 10000000000;
 
-// What a digit stands for, and 10 where the character is none.
-fn digit(byte: u8) -> u64
-    ensures { (result ≡ typed.digit byte) × (result ≤ 10) }
+// What a digit stands for, where the character is one.
+#[tactic(auto, unfolding(crate::specs::Typed::digit))]
+fn digit(byte: u8) -> Option<u64>
+    ensures value { result ≡ typed.digit byte }
+    ensures below { IfSome result (λ d. d < 10) }
 {
-    if byte < 48 {
-        return 10;
+    match byte {
+        b'0'..=b'9' => Some(u64::from(byte - b'0')),
+        _ => None,
     }
-    if byte <= 57 {
-        return (byte - 48) as u64;
-    }
-    10
 }
 
-// What the digit at a place of a text stands for, and 10 where there is none.
-fn digit_at(text: &[u8], at: usize) -> u64
-    ensures { (result ≡ typed.digit_at text.now at) × (result ≤ 10) × (result < 10 → at < size text.now) }
+// What the digit at a place of a text stands for, where there is one.
+#[tactic(auto, unfolding(crate::specs::Typed::digit_at))]
+fn digit_at(text: &[u8], at: usize) -> Option<u64>
+    ensures value { result ≡ typed.digit_at text.now at }
+    ensures below { IfSome result (λ d. (d < 10) × (at < size text.now)) }
 {
-    if at < text.len() {
-        return digit(text[at]);
-    }
-    10
+    digit(*text.get(at)?)
 }
 
 // A number with one digit more.
+#[tactic(auto, unfolding(crate::specs::Typed::with_digit))]
 fn with_digit(value: u64, digit: u64) -> u64
     requires { digit < 10 }
-    ensures { (result ≡ typed.with_digit value digit) × (value < 100000000000 → result < 100000000000) }
+    ensures value { result ≡ typed.with_digit value digit }
+    ensures bounded { value < 100000000000 → result < 100000000000 }
 {
     if value < TEN_DIGITS {
-        return value * 10 + digit;
+        value * 10 + digit
+    } else {
+        value
     }
-    value
 }
 
-// The place after a digit, or the same place where there is none.
-fn past(text: &[u8], at: usize) -> usize
-    ensures { result ≡ typed.past text.now at }
+// The decimal at a text's front: one to ten digits.
+#[tactic(auto, unfolding(crate::specs::Typed::digits, crate::specs::Typed::is_decimal))]
+pub(crate) fn read(text: &[u8]) -> Option<Digits>
+    ensures value { result ≡ typed.digits text.now }
+    ensures bounded { IfSome result (λ d. (d.value < 100000000000) × (d.end < 11)) }
 {
-    if digit_at(text, at) < 10 {
-        return at + 1;
-    }
-    at
+    let read = read_all(text);
+    matches!(read.end, 1..=10).then_some(read)
 }
 
-// The digits at a text's front.
-pub(crate) fn read(text: &[u8]) -> Digits
-    ensures { (result ≡ typed.digits_on 0 text.now 0) × (result.value < 100000000000) }
+// All digits at a text's front.
+fn read_all(text: &[u8]) -> Digits
+    ensures value { result ≡ typed.digits_on 0 text.now 0 }
+    ensures bounded { result.value < 100000000000 }
 {
     let mut value = 0;
-    let mut end = 0;
-    while end < text.len() {
-        let d = digit(text[end]);
-        if d > 9 {
+    for (end, byte) in text.iter().enumerate() {
+        let Some(d) = digit(*byte) else {
             return Digits { value, end };
-        }
+        };
         value = with_digit(value, d);
-        end += 1;
     }
-    Digits { value, end }
+    Digits {
+        value,
+        end: text.len(),
+    }
 }
 
-// So many decimals from a place on: those that stand there, and zeros for the others.
-pub(crate) fn read_part(text: &[u8], from: usize, places: u64) -> Digits
-    ensures { (result ≡ typed.part_on text.now places 0 from) × (result.value < 100000000000) }
+// So many decimals from a place on, with zeros for those that do not stand there.
+// There are none where the first does not stand there.
+#[tactic(auto, unfolding(crate::specs::Typed::part))]
+pub(crate) fn read_part(text: &[u8], from: usize, places: u64) -> Option<Digits>
+    ensures value { result ≡ typed.part text.now from places }
+    ensures bounded { IfSome result (λ d. d.value < 100000000000) }
 {
     let mut value = 0;
     let mut end = from;
-    let mut left = places;
-    while left > 0 {
-        value = with_digit(value, digit_at(text, end) % 10);
-        end = past(text, end);
-        left -= 1;
+    for _done in 0..places {
+        let d = digit_at(text, end);
+        value = with_digit(value, d.unwrap_or(0));
+        if d.is_some() {
+            end += 1;
+        }
     }
-    Digits { value, end }
-}
-
-// Whether so many digits are a decimal: one to ten.
-pub(crate) fn is_decimal(count: usize) -> bool
-    ensures { result ≡ typed.is_decimal count }
-{
-    if count < 1 {
-        return false;
-    }
-    count <= 10
+    (from < end).then_some(Digits { value, end })
 }

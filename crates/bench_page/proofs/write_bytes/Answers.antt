@@ -1,9 +1,9 @@
 -- The loop keeps that the pairs of the bytes still to come, written on the page as it is, make the page that all of them make.
 use Prim.Native.Nat.{ℕ, ◌+◌, ◌≤◌, ◌<◌}
-use borrow.Author.Tests.{eq-eqb, ne_eqb}
-use native.Mathlib.Omega.{arith}
+use lib.Dec.{eqb}
+use mathlib.Core.Bool.{Bool, true, false}
 use mathlib.Core.List.{List}
-use mathlib.Core.Path.{◌≡◌, refl}
+use mathlib.Core.Path.{◌≡◌}
 use lib.ListN.{length, get_or, drop, drop_of_length-le}
 use Rattle.laws.specs.Rest.{rest}
 use Rattle.bench_page.specs.Page.{written_byte, written}
@@ -21,23 +21,23 @@ all : (bytes : List ℕ) (i : ℕ) (p whole : List ℕ × ℕ) → length bytes 
 unfolding written pairs
 all bytes i p whole h f = rw (drop_of_length-le bytes h) at f
 
-some : (bytes : List ℕ) → (length bytes ≡ 0 → ⊥) → pairs bytes ≡ shown bytes
+some : (bytes : List ℕ) (is : Bool) → is ≡ eqb (length bytes) 0 → is ≡ false → pairs bytes ≡ shown bytes
 unfolding shown
-some bytes e = rw (ne_eqb (length bytes) 0 e)
+some bytes is e f = rw (← e, f)
 
-none : (bytes : List ℕ) (p q : List ℕ × ℕ) → length bytes ≡ 0 → q ≡ written_byte 45 p → q ≡ written (shown bytes) p
+none : (bytes : List ℕ) (is : Bool) (p q : List ℕ × ℕ) → is ≡ eqb (length bytes) 0 → is ≡ true → q ≡ written_byte 45 p → q ≡ written (shown bytes) p
 unfolding written shown
-none bytes p q e f = rw (eq-eqb (length bytes) 0 e) f
+none bytes is p q e f g = rw (← e, f) g
 
-pub returns-then-bytes-eq0 : goal.returns-then-bytes-eq0
-returns-then-bytes-eq0 c = none _ _ _ c.if-bytes-eq0.true c.write_byte.ensures
+pub returns-then-is_empty : goal.returns-then-is_empty
+returns-then-is_empty c = none _ _ _ _ c.is_empty.ensures c.if-is_empty.true c.write_byte.ensures
 
-pub loop-i-init : goal.loop-i-init
-loop-i-init c = (omega arith, rw (some _ c.if-bytes-eq0.false) refl)
+pub loop-byte-init : goal.loop-byte-init
+loop-byte-init c = rw (some c.args.bytes.now _ c.is_empty.ensures c.if-is_empty.false)
 
-pub loop-i-preserved : goal.loop-i-preserved
-loop-i-preserved c =
-    (omega arith, one_more _ _ _ _ _ c.loop-i-test.true c.write_pair-next.ensures c.loop-i.invariant.1)
+pub loop-byte-preserved : goal.loop-byte-preserved
+loop-byte-preserved c =
+    one_more _ _ _ _ _ c.loop-byte-test.true c.write_pair-next.ensures c.loop-byte.invariant
 
 pub returns : goal.returns
-returns c = all _ _ _ _ c.loop-i-test.false c.loop-i.invariant.1
+returns c = all _ _ _ _ c.loop-byte-test.false c.loop-byte.invariant

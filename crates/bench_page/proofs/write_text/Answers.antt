@@ -1,6 +1,5 @@
 -- The loop keeps that the bytes still to come, written on the page as it is, make the page that the whole text makes.
 use Prim.Native.Nat.{ℕ, ◌≤◌, ◌<◌, ◌+◌}
-use native.Mathlib.Omega.{arith}
 use mathlib.Core.List.{List}
 use mathlib.Core.Path.{◌≡◌}
 use lib.ListN.{length, get_or, drop, drop_of_length-le}
@@ -18,9 +17,8 @@ all : (text : List ℕ) (i : ℕ) (p whole : List ℕ × ℕ) → length text �
 unfolding written
 all text i p whole h f = rw (drop_of_length-le text h) at f
 
-pub loop-i-preserved : goal.loop-i-preserved
-loop-i-preserved c =
-    (omega arith, one_more _ _ _ _ _ c.loop-i-test.true c.write_byte-next.ensures c.loop-i.invariant.1)
+pub loop-byte-preserved : goal.loop-byte-preserved
+loop-byte-preserved c = one_more _ _ _ _ _ c.loop-byte-test.true c.write_byte-next.ensures c.loop-byte.invariant
 
 pub returns : goal.returns
-returns c = all _ _ _ _ c.loop-i-test.false c.loop-i.invariant.1
+returns c = all _ _ _ _ c.loop-byte-test.false c.loop-byte.invariant

@@ -1,18 +1,18 @@
--- Long division as the definition goes; the decimals that may still come are the measure.
-use Rattle.visit_figures.proofs.Laws.{ended, stopped, onward}
+-- Long division as the definition goes.
 use native.Mathlib.Nat.{mod-lt}
 use native.Mathlib.Omega.{arith}
+use Rattle.visit_figures.proofs.Laws.{ended, stopped, onward}
 use Rattle.visit_figures.proofs.write_part.Goals as goal
 
-pub returns-then-left-eq0 : goal.returns-then-left-eq0
-returns-then-left-eq0 c = stopped _ _ _ _ _ c.loop-turns.invariant.2 c.loop-turns-test.true c.if-left-eq0.true
-
-pub loop-turns-preserved : goal.loop-turns-preserved
-loop-turns-preserved c = (
+pub loop-done-preserved : goal.loop-done-preserved
+loop-done-preserved c = (
   mod-lt _ (omega arith),
   omega (arith, c.write_byte-next.auto.out),
-  onward _ _ _ _ _ c.loop-turns.invariant.2 c.loop-turns-test.true c.if-left-eq0.false c.digit.ensures c.write_byte-next.ensures,
+  onward 10 _ _ _ _ _ c.loop-done.invariant.2 c.loop-done-test.true c.if-left-eq0.false c.digit.ensures c.write_byte-next.ensures,
 )
 
-pub returns : goal.returns
-returns c = ended _ _ _ _ _ c.loop-turns.invariant.2 c.loop-turns-test.false
+pub returns-then-left-eq0 : goal.returns-then-left-eq0
+returns-then-left-eq0 c = stopped 10 _ _ _ _ _ c.loop-done.invariant.2 c.loop-done-test.true c.if-left-eq0.true
+
+pub returns-after-loop-done : goal.returns-after-loop-done
+returns-after-loop-done c = ended 10 _ _ _ _ _ c.loop-done.invariant.2 c.loop-done-test.false

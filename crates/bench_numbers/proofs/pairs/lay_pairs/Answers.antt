@@ -1,67 +1,39 @@
--- The loop keeps that the pairs still to come, laid after those that are, make what the whole word makes of what was lent.
--- of a word that has begun, whether one character or more are left
-use Prim.Native.Nat.{ℕ, ◌+◌, ◌-◌, ◌≤◌, ◌<◌}
-use borrow.Author.Tests.{lt-ltb, le-ltb}
-use native.Mathlib.Omega.{arith}
-use mathlib.Core.Bool.{Bool, true, false}
-use mathlib.Core.List.{List, [], ◌∷◌}
-use mathlib.Core.Path.{◌≡◌, sym, ◌∙◌}
-use lib.ListN.{length, drop, set}
-use Rattle.bench_numbers.specs.declared.Argument.TheVariants as the
-use Rattle.bench_numbers.specs.declared.Reason.{Reason}
-use Rattle.bench_numbers.specs.declared.Reason.TheVariants.{TooLong}
-use Rattle.bench_numbers.specs.declared.pairs.Pair.TheVariants.{Byte, Refused}
-use Rattle.bench_numbers.specs.Words.{word, Ends}
-use Rattle.bench_numbers.specs.Reading.{pair, pairs_laid}
-use Rattle.bench_numbers.proofs.Ending.{two}
+-- The next pair refused, with no room, or laid.
+use Rattle.std.proofs.Common.{arith, ◌≡◌, ◌+◌, ◌-◌, length, sym, ◌∙◌}
+use Rattle.std.proofs.lemmas.Result.{err_from_is_err_and}
+use Rattle.std.specs.Slice.Iter.{chunks_rest}
+use Rattle.bench_numbers.proofs.Laying.{refused, full, two, laid, over}
 use Rattle.bench_numbers.proofs.pairs.lay_pairs.Goals as goal
 
-stops : (start byte : ℕ) (rest : List ℕ) (i : ℕ) (lent : List ℕ) (at : ℕ) (reason : Reason) → pair (byte ∷ rest) ≡ Refused reason → (the.Refused reason, lent) ≡ pairs_laid start (byte ∷ rest) i lent at
-unfolding pairs_laid
-stops start byte [] i lent at reason e = rw e
-stops start byte (low ∷ rest) i lent at reason e = rw e
-
-refused :
-    (start : ℕ) (line : List ℕ) (i : ℕ) (ends : Bool) → Ends line i ends → ends ≡ false → (lent : List ℕ) (at : ℕ) (reason : Reason)
-    → pair (word (drop i line)) ≡ Refused reason → (the.Refused reason, lent) ≡ pairs_laid start (word (drop i line)) i lent at
-refused start line i ends w f lent at reason e = rw (w.begins f) (stops start _ _ i lent at reason (rw (w.begins f) at e))
-
-module _ (start : ℕ) (line : List ℕ) (i : ℕ) (ends : Bool) (v : Ends line i ends) (lent : List ℕ) (at byte : ℕ) (e : pair (word (drop i line)) ≡ Byte byte) where
-  full : length lent ≤ at → (the.Refused TooLong, lent) ≡ pairs_laid start (word (drop i line)) i lent at
-  unfolding pairs_laid
-  full h =
-      let w = (two line i byte e).begins in
-      rw (w, rw w at e, le-ltb at (length lent) h)
-
-  goes_on : at < length lent → pairs_laid start (word (drop i line)) i lent at ≡ pairs_laid start (word (drop (i + 2) line)) (i + 2) (set lent at byte) (at + 1)
-  unfolding pairs_laid
-  goes_on h =
-      let w = (two line i byte e).begins in
-      rw (w, rw w at e, lt-ltb at (length lent) h)
-
-at-end :
-    (start : ℕ) (line : List ℕ) (i : ℕ) (ends : Bool) → Ends line i ends → ends ≡ true → (lent : List ℕ) (at : ℕ)
-    → (the.Read (at - start) i at, lent) ≡ pairs_laid start (word (drop i line)) i lent at
-unfolding pairs_laid
-at-end start line i ends w f lent at = rw (w.none f)
-
-pub returns-in-Refused : goal.returns-in-Refused
-returns-in-Refused c =
-    refused _ _ _ _ c.ends.ensures c.loop-reason-test.true _ _ _ (sym c.read_pair.ensures ∙ c.in-Refused.is)
-    ∙ c.loop-reason.invariant.1
+pub returns-in_err-byte : goal.returns-in_err-byte
+returns-in_err-byte c =
+    let p = err_from_is_err_and c.from_residual.result c.from_residual.ensures.1 in
+    let e = c.in-Some.ensures.steps.1 in
+    rw (p.1, p.2) (refused _ _ _ _ _ _ _ e.0 (rw c.loop-pair.invariant.two at e.1) e.2 _ c.in_err-byte.ensures ∙ c.loop-pair.invariant.whole)
 
 pub returns-then-lent-at : goal.returns-then-lent-at
 returns-then-lent-at c =
-    full _ _ _ _ c.ends.ensures _ _ _ (sym c.read_pair.ensures ∙ c.in-Byte.is) c.if-lent-at.true
-    ∙ c.loop-reason.invariant.1
+    let e = c.in-Some.ensures.steps.1 in
+    full _ _ _ _ _ _ _ e.0 (rw c.loop-pair.invariant.two at e.1) e.2 _ c.in_ok-byte.ensures c.if-lent-at.true ∙ c.loop-pair.invariant.whole
 
-pub loop-reason-preserved : goal.loop-reason-preserved
-loop-reason-preserved c = (
-  omega arith,
-  sym (goes_on _ _ _ _ c.ends.ensures _ _ _ (sym c.read_pair.ensures ∙ c.in-Byte.is) c.if-lent-at.false)
-      ∙ c.loop-reason.invariant.1,
-)
+pub loop-pair-preserved : goal.loop-pair-preserved
+loop-pair-preserved c =
+    let e = c.in-Some.ensures.steps.1 in
+    let f = rw c.loop-pair.invariant.two at e.1 in
+    let l = two c.args.place 0 c.loop-pair.lent c.loop-pair.at _ _ _ e.0 f e.2 _ c.in_ok-byte.ensures in
+    let whole = sym (laid c.args.place _ c.loop-pair.lent c.loop-pair.at _ _ _ e.0 f e.2 _ c.in_ok-byte.ensures c.if-lent-at.false) ∙ c.loop-pair.invariant.whole in
+    let k : (c.args.from + (length c.args.word.now - length (chunks_rest c.loop-pair.pair-iterator))) + 2
+    ≡ c.args.from + (length c.args.word.now - length (chunks_rest c.next.new.self)) =
+    omega (arith, c.loop-pair.invariant.within) in
+    record {
+      two = c.in-Some.ensures.steps.0 ∙ c.loop-pair.invariant.two;
+      within = omega (arith, c.loop-pair.invariant.within);
+      passed = omega arith;
+      whole = rw k at whole;
+    }
 
 pub returns : goal.returns
 returns c =
-    at-end _ _ _ _ c.ends.ensures c.loop-reason-test.false _ _ ∙ c.loop-reason.invariant.1
+    let e = c.in-None.ensures.steps.1.0 in
+    let k : c.args.from + (length c.args.word.now - length (chunks_rest c.loop-pair.pair-iterator)) ≡ c.args.from + length c.args.word.now = omega (arith, e) in
+    rw (← k) (over _ _ _ _ _ e ∙ c.loop-pair.invariant.whole)
