@@ -6,7 +6,8 @@ use mathlib.Core.Bool.{Bool, true, false}
 use lib.Dec.{ltb}
 use mathlib.Core.List.{List, [], ◌∷◌, ◌++◌}
 use mathlib.Core.Path.{◌≡◌, refl}
-use Rattle.bench_page.specs.Page.{written_byte, written}
+use Rattle.bench_page.specs.declared.Page.{Page}
+use Rattle.bench_page.specs.Page.{written_byte, written, ◌▹◌}
 use Rattle.bench_page.specs.Digits.{last_digit, spelled, decimal}
 
 pub written-append : (s t : List ℕ) (p : List ℕ × ℕ) → written (s ++ t) p ≡ written t (written s p)
@@ -15,8 +16,13 @@ written-append [] t p = refl
 written-append (b ∷ s) t p = written-append s t (written_byte b p)
 
 -- a text written and then another is both written
-pub joined : (s t : List ℕ) (p : List ℕ × ℕ) {q r : List ℕ × ℕ} → q ≡ written s p → r ≡ written t q → r ≡ written (s ++ t) p
-joined s t p e f = rw (written-append s t p, ← e) f
+pub joined : (s t : List ℕ) (p : Page) {q r : Page} → q ≡ p ▹ s → r ≡ q ▹ t → r ≡ p ▹ (s ++ t)
+joined s t p e f = rw (written-append s t (p.out.now, p.at)) (rw e at f)
+
+-- a text of no bytes leaves the page
+pub nothing : (p : Page) → p ▹ [] ≡ p
+unfolding written
+nothing p = refl
 
 -- so many more digits hold every number below this
 abbrev bound : ℕ → ℕ
@@ -46,13 +52,10 @@ room-for-more (suc more) n h =
     by_size n (λ l. rw (one-digit (suc more) n l, one-digit (suc (suc more)) n l))
     (λ l. rw (more-digits more n l, more-digits (suc more) n l, room-for-more more (n / 10) (omega arith)))
 
-module _ (n : ℕ) (p r : List ℕ × ℕ) where
-  pub decimal-one : n < 10 → r ≡ written_byte (last_digit n) p → r ≡ written (decimal n) p
-  unfolding written decimal
-  decimal-one h e = rw (one-digit 19 n h) e
+pub decimal-one : (n : ℕ) → n < 10 → last_digit n ∷ [] ≡ decimal n
+unfolding decimal
+decimal-one n h = rw (one-digit 19 n h)
 
-  pub decimal-more :
-      {q : List ℕ × ℕ} → 10 ≤ n → n < bound 19 → q ≡ written (decimal (n / 10)) p → r ≡ written_byte (last_digit n) q → r ≡ written (decimal n) p
-  unfolding written decimal
-  decimal-more h l e f =
-      rw (more-digits 18 n h, room-for-more 18 (n / 10) (omega arith), written-append (spelled 19 (n / 10)) (last_digit n ∷ []) p, ← e) f
+pub decimal-more : (n : ℕ) → 10 ≤ n → n < bound 19 → decimal (n / 10) ++ last_digit n ∷ [] ≡ decimal n
+unfolding decimal
+decimal-more n h l = rw (more-digits 18 n h, room-for-more 18 (n / 10) (omega arith))

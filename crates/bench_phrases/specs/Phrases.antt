@@ -1,6 +1,7 @@
 -- Pieces of an answer, as what they make of a page.
 use Rattle.std.specs.Prelude.{ℕ, List}
-use Rattle.bench_page.specs.Page.{Page, letters, ◌▹◌}
+use Rattle.bench_page.specs.declared.Page.{Page}
+use Rattle.bench_page.specs.Page.{letters, ◌▹◌}
 use Rattle.bench_numbers.specs.declared.Reason.{Reason}
 use Rattle.bench_numbers.specs.declared.Reason.TheVariants.{UnknownWord, WrongNumberOfWords, NotANumber, OddHex, TooLong}
 

@@ -5,19 +5,20 @@ ghost use Rattle.std.specs.Prelude.{◌≡◌};
 ghost use Rattle.bench_phrases.specs.Phrases as phrases;
 
 use bench_numbers::Reason;
+use bench_page::Page;
 
 // Writes the newline that ends an answer.
-pub fn end(out: &mut [u8], at: usize) -> usize
-    ensures { (out.new, result) ≡ phrases.ended (out.old, at) }
+pub fn end(page: &mut Page)
+    ensures { page.new ≡ phrases.ended page.old }
 {
-    bench_page::write_text(b"\n", out, at)
+    page.write_text(b"\n");
 }
 
 // Writes a line that says why a line is not answered.
-pub fn refuse(reason: Reason, out: &mut [u8], at: usize) -> usize
-    ensures { (out.new, result) ≡ phrases.refused reason (out.old, at) }
+pub fn refuse(reason: Reason, page: &mut Page)
+    ensures { page.new ≡ phrases.refused reason page.old }
 {
-    bench_page::write_text(line(reason), out, at)
+    page.write_text(line(reason));
 }
 
 // The line for each reason.

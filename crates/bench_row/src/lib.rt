@@ -7,41 +7,40 @@ ghost use Rattle.bench_row.specs.Row as row;
 
 mod marks;
 
+use bench_page::Page;
 use marks::Marked;
 
 // Writes a form with its numbers: '#' marks one shown in decimal, and '@' a byte shown as two hex digits.
-pub fn fill(form: &[u8], numbers: &[u64], out: &mut [u8], at: usize) -> usize
-    ensures { (out.new, result) ≡ (out.old, at) ▹ row.filled form.now numbers.now }
+pub fn fill(form: &[u8], numbers: &[u64], page: &mut Page)
+    ensures { page.new ≡ page.old ▹ row.filled form.now numbers.now }
 {
-    fill_marks(form, numbers, 0, out, at)
+    fill_marks(form, numbers, 0, page);
 }
 
 // The same with signed numbers: '#' marks one.
-pub fn fill_signed(form: &[u8], numbers: &[i32], out: &mut [u8], at: usize) -> usize
-    ensures { (out.new, result) ≡ (out.old, at) ▹ row.filled_signed form.now numbers.now }
+pub fn fill_signed(form: &[u8], numbers: &[i32], page: &mut Page)
+    ensures { page.new ≡ page.old ▹ row.filled_signed form.now numbers.now }
 {
-    fill_marks(form, numbers, 0, out, at)
+    fill_marks(form, numbers, 0, page);
 }
 
 // Writes a form with numbers of either kind; the number of a mark past the last is given.
-fn fill_marks<N: Marked>(form: &[u8], numbers: &[N], past: N, out: &mut [u8], at: usize) -> usize
-    ensures { (out.new, result) ≡ (out.old, at) ▹ row.filled_from N.shown past form.now numbers.now 0 }
+fn fill_marks<N: Marked>(form: &[u8], numbers: &[N], past: N, page: &mut Page)
+    ensures { page.new ≡ page.old ▹ row.filled_from N.shown past form.now numbers.now 0 }
 {
-    let mut next = at;
     let mut k = 0;
     for &byte in form {
-        next = number_at(numbers, k, past).write(byte, out, next);
+        number_at(numbers, k, past).write(byte, page);
         k = after(byte, k);
     }
-    next
 }
 
 // Writes what a lent buffer holds.
-pub fn write_buffer(lent: &[u8], out: &mut [u8], at: usize) -> usize
-    ensures { (out.new, result) ≡ (out.old, at) ▹ row.buffer lent.now }
+pub fn write_buffer(lent: &[u8], page: &mut Page)
+    ensures { page.new ≡ page.old ▹ row.buffer lent.now }
 {
-    let next = bench_page::write_text(b" buf=", out, at);
-    bench_page::write_bytes(lent, out, next)
+    page.write_text(b" buf=");
+    page.write_bytes(lent);
 }
 
 // The number of a mark, and what is given past the last.

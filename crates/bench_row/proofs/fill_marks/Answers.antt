@@ -6,7 +6,7 @@ use Rattle.bench_row.proofs.fill_marks.Goals as goal
 pub loop-byte-preserved : goal.loop-byte-preserved
 loop-byte-preserved g c = (
   omega (arith, c.after-k.ensures.1),
-  one_more _ _ _ _ _ _ _ _ _ _ _ c.loop-byte-test.true c.number_at.ensures c.write-next.ensures c.after-k.ensures.0 c.loop-byte.invariant.1,
+  one_more _ _ _ _ _ _ _ _ _ _ _ c.loop-byte-test.true c.number_at.ensures c.write.ensures c.after-k.ensures.0 c.loop-byte.invariant.1,
 )
 
 pub returns : goal.returns

@@ -5,4 +5,4 @@ use Rattle.bench_row.proofs.write_buffer.Goals as goal
 
 pub returns : goal.returns
 unfolding buffer
-returns c = joined _ _ _ c.write_text-next.ensures c.write_bytes.ensures
+returns c = joined _ _ _ c.write_text.ensures c.write_bytes.ensures
