@@ -2,17 +2,18 @@
 use Rattle.std.proofs.Common.{ℕ, suc, ◌+◌, ◌-◌, ◌*◌, ◌/◌, ◌%◌, ◌≤◌, ◌<◌}
 use Rattle.std.proofs.Common.{arith}
 use borrow.Author.Tests.{eq-eqb, ne_eqb}
-use Rattle.std.proofs.Common.{List, ◌∷◌}
+use Rattle.std.proofs.Common.{List, [], ◌∷◌}
 use Rattle.std.proofs.Common.{◌≡◌}
-use Rattle.bench_page.specs.Page.{Page, written_byte, written}
+use Rattle.bench_page.specs.declared.Page.{Page}
+use Rattle.bench_page.specs.Page.{written, ◌▹◌}
+use Rattle.bench_page.proofs.Laws.{joined}
 use Rattle.visit_figures.specs.Figures.{digit, decimals}
 
 -- a byte and then a text
-pub first : (byte : ℕ) (text : List ℕ) (page : Page) {a b : Page} → a ≡ written_byte byte page → b ≡ written text a → b ≡ written (byte ∷ text) page
-unfolding written
-first byte text page e f = rw (← e) f
+pub first : (byte : ℕ) (text : List ℕ) (page : Page) {a b : Page} → a ≡ page ▹ byte ∷ [] → b ≡ a ▹ text → b ≡ page ▹ byte ∷ text
+first byte text page e f = joined (byte ∷ []) text page e f
 
-module _ (places done left unit : ℕ) (p whole : Page) (inv : written (decimals (places - done) left unit) p ≡ whole) where
+module _ (places done left unit : ℕ) (p whole : Page) (inv : p ▹ decimals (places - done) left unit ≡ whole) where
   pub ended : places ≤ done → p ≡ whole
   unfolding written decimals
   ended h =
@@ -27,8 +28,8 @@ module _ (places done left unit : ℕ) (p whole : Page) (inv : written (decimals
         rw (eq-eqb left 0 e) at (rw k at inv)
 
     pub onward :
-        {q : Page} {d : ℕ} → (left ≡ 0 → ⊥) → d ≡ digit (left * 10 / unit) → q ≡ written_byte d p
-        → written (decimals (places - (done + 1)) (left * 10 % unit) unit) q ≡ whole
+        {q : Page} {d : ℕ} → (left ≡ 0 → ⊥) → d ≡ digit (left * 10 / unit) → q ≡ p ▹ d ∷ []
+        → q ▹ decimals (places - (done + 1)) (left * 10 % unit) unit ≡ whole
     unfolding written decimals
     onward e f g =
         let k : places - done ≡ suc (places - (done + 1)) = omega arith in

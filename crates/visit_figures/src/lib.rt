@@ -5,6 +5,8 @@ ghost use Rattle.std.specs.Prelude.{◌≡◌, ◌<◌};
 ghost use Rattle.bench_page.specs.Page.{◌▹◌};
 ghost use Rattle.visit_figures.specs.Figures as text;
 
+use bench_page::Page;
+
 // From here on a word stands for a number below zero.
 pub const NEGATIVE: u32 = 0x80000000;
 
@@ -19,68 +21,68 @@ pub const DECIMALS: u32 = 10;
 // Each channel is its figure and its unit: one function that took the figure's writer as a closure would be no shorter.
 // Writes a temperature: hundredths of a degree, in two's complement.
 #[tactic(auto, using(bench_page::proofs::Laws::joined), unfolding(crate::specs::Figures::temperature))]
-pub fn write_temperature(word: u32, out: &mut [u8], at: usize) -> usize
-    ensures { (out.new, result) ≡ (out.old, at) ▹ text.temperature word }
+pub fn write_temperature(word: u32, page: &mut Page)
+    ensures { page.new ≡ page.old ▹ text.temperature word }
 {
-    let next = write_degrees(word, out, at);
-    bench_page::write_text(b" \xC2\xB0C", out, next)
+    write_degrees(word, page);
+    page.write_text(b" \xC2\xB0C");
 }
 
 // Writes a pressure.
 #[tactic(auto, using(bench_page::proofs::Laws::joined), unfolding(crate::specs::Figures::pressure))]
-pub fn write_pressure(word: u32, out: &mut [u8], at: usize) -> usize
-    ensures { (out.new, result) ≡ (out.old, at) ▹ text.pressure word }
+pub fn write_pressure(word: u32, page: &mut Page)
+    ensures { page.new ≡ page.old ▹ text.pressure word }
 {
-    let next = write_pascals(word, out, at);
-    bench_page::write_text(b" Pa", out, next)
+    write_pascals(word, page);
+    page.write_text(b" Pa");
 }
 
 // Writes a humidity.
 #[tactic(auto, using(bench_page::proofs::Laws::joined), unfolding(crate::specs::Figures::humidity))]
-pub fn write_humidity(word: u32, out: &mut [u8], at: usize) -> usize
-    ensures { (out.new, result) ≡ (out.old, at) ▹ text.humidity word }
+pub fn write_humidity(word: u32, page: &mut Page)
+    ensures { page.new ≡ page.old ▹ text.humidity word }
 {
-    let next = write_percent(word, out, at);
-    bench_page::write_text(b" %RH", out, next)
+    write_percent(word, page);
+    page.write_text(b" %RH");
 }
 
 // Writes hundredths of a degree with two decimals, and no unit.
 #[tactic(auto, unfolding(crate::specs::Figures::hundredths))]
-pub fn write_hundredths(n: u64, out: &mut [u8], at: usize) -> usize
-    ensures { (out.new, result) ≡ (out.old, at) ▹ text.hundredths n }
+pub fn write_hundredths(n: u64, page: &mut Page)
+    ensures { page.new ≡ page.old ▹ text.hundredths n }
 {
-    bench_row::fill(b"#.##", &[n / 100, n / 10 % 10, n % 10], out, at)
+    bench_row::fill(b"#.##", &[n / 100, n / 10 % 10, n % 10], page);
 }
 
 // Writes a pressure with no unit.
 #[tactic(auto, unfolding(crate::specs::Figures::pascals))]
-pub fn write_pascals(word: u32, out: &mut [u8], at: usize) -> usize
-    ensures { (out.new, result) ≡ (out.old, at) ▹ text.pascals word }
+pub fn write_pascals(word: u32, page: &mut Page)
+    ensures { page.new ≡ page.old ▹ text.pascals word }
 {
-    write_amount(word, PASCAL, out, at)
+    write_amount(word, PASCAL, page);
 }
 
 // Writes a humidity with no unit.
 #[tactic(auto, unfolding(crate::specs::Figures::percent))]
-pub fn write_percent(word: u32, out: &mut [u8], at: usize) -> usize
-    ensures { (out.new, result) ≡ (out.old, at) ▹ text.percent word }
+pub fn write_percent(word: u32, page: &mut Page)
+    ensures { page.new ≡ page.old ▹ text.percent word }
 {
-    write_amount(word, PERCENT, out, at)
+    write_amount(word, PERCENT, page);
 }
 
 // Writes a missing answer: its number, and its reason where it has one.
 #[tactic(auto, using(bench_page::proofs::Laws::joined), unfolding(crate::specs::Figures::missing))]
-pub fn write_missing(number: u32, out: &mut [u8], at: usize) -> usize
-    ensures { (out.new, result) ≡ (out.old, at) ▹ text.missing number }
+pub fn write_missing(number: u32, page: &mut Page)
+    ensures { page.new ≡ page.old ▹ text.missing number }
 {
-    let next = bench_row::fill(b"missing #", &[u64::from(number)], out, at);
-    write_reason(number, out, next)
+    bench_row::fill(b"missing #", &[u64::from(number)], page);
+    write_reason(number, page);
 }
 
 // Writes why an answer is missing: a space and the reason in brackets, or nothing where the number has none.
 #[tactic(auto, unfolding(crate::specs::Figures::reason))]
-pub fn write_reason(number: u32, out: &mut [u8], at: usize) -> usize
-    ensures { (out.new, result) ≡ (out.old, at) ▹ text.reason number }
+pub fn write_reason(number: u32, page: &mut Page)
+    ensures { page.new ≡ page.old ▹ text.reason number }
 {
     let reason: &[u8] = match number {
         10 => b" (channel skipped)",
@@ -90,50 +92,48 @@ pub fn write_reason(number: u32, out: &mut [u8], at: usize) -> usize
         14 => b" (pressure negative or above 4,294,967,295)",
         _ => b"",
     };
-    bench_page::write_text(reason, out, at)
+    page.write_text(reason);
 }
 
 // Writes a temperature with no unit.
 #[tactic(auto, using(crate::proofs::Laws::first), unfolding(crate::specs::Figures::degrees))]
-fn write_degrees(word: u32, out: &mut [u8], at: usize) -> usize
-    ensures { (out.new, result) ≡ (out.old, at) ▹ text.degrees word }
+fn write_degrees(word: u32, page: &mut Page)
+    ensures { page.new ≡ page.old ▹ text.degrees word }
 {
     if word < NEGATIVE {
-        return write_hundredths(u64::from(word), out, at);
+        write_hundredths(u64::from(word), page);
+    } else {
+        page.write_byte(b'-');
+        write_hundredths(u64::from(0xFFFFFFFF - word + 1), page);
     }
-    let next = bench_page::write_byte(b'-', out, at);
-    write_hundredths(u64::from(0xFFFFFFFF - word + 1), out, next)
 }
 
 // Writes an amount that counts parts of a unit: the whole units, and a point and the decimals of the rest where there is one.
 #[tactic(auto, using(bench_page::proofs::Laws::joined, crate::proofs::Laws::first), unfolding(crate::specs::Figures::amount))]
-fn write_amount(word: u32, unit: u32, out: &mut [u8], at: usize) -> usize
+fn write_amount(word: u32, unit: u32, page: &mut Page)
     requires { (0 < unit) × (unit < 65536) }
-    ensures { (out.new, result) ≡ (out.old, at) ▹ text.amount word unit }
+    ensures { page.new ≡ page.old ▹ text.amount word unit }
 {
-    let next = bench_page::write_decimal(u64::from(word / unit), out, at);
-    if word % unit == 0 {
-        return next;
+    page.write_decimal(u64::from(word / unit));
+    if word % unit > 0 {
+        page.write_byte(b'.');
+        write_part(word % unit, unit, page);
     }
-    let point = bench_page::write_byte(b'.', out, next);
-    write_part(word % unit, unit, out, point)
 }
 
 // Writes the decimals of a part of a unit, by long division to the last that is not 0.
-fn write_part(part: u32, unit: u32, out: &mut [u8], at: usize) -> usize
+fn write_part(part: u32, unit: u32, page: &mut Page)
     requires { (part < unit) × (unit < 65536) }
-    ensures { (out.new, result) ≡ (out.old, at) ▹ text.decimals 10 part unit }
+    ensures { page.new ≡ page.old ▹ text.decimals 10 part unit }
 {
     let mut left = part;
-    let mut next = at;
     for _done in 0..DECIMALS {
         if left == 0 {
             break;
         }
-        next = bench_page::write_byte(digit(left * 10 / unit), out, next);
+        page.write_byte(digit(left * 10 / unit));
         left = left * 10 % unit;
     }
-    next
 }
 
 // A digit as a character.

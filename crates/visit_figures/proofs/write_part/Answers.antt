@@ -7,12 +7,11 @@ use Rattle.visit_figures.proofs.write_part.Goals as goal
 pub loop-done-preserved : goal.loop-done-preserved
 loop-done-preserved c = (
   mod-lt _ (omega arith),
-  omega (arith, c.write_byte-next.auto.out),
-  onward 10 _ _ _ _ _ c.loop-done.invariant.2 c.loop-done-test.true c.if-left-eq0.false c.digit.ensures c.write_byte-next.ensures,
+  onward 10 _ _ _ _ _ c.loop-done.invariant.1 c.loop-done-test.true c.if-left-eq0.false c.digit.ensures c.write_byte.ensures,
 )
 
 pub returns-then-left-eq0 : goal.returns-then-left-eq0
-returns-then-left-eq0 c = stopped 10 _ _ _ _ _ c.loop-done.invariant.2 c.loop-done-test.true c.if-left-eq0.true
+returns-then-left-eq0 c = stopped 10 _ _ _ _ _ c.loop-done.invariant.1 c.loop-done-test.true c.if-left-eq0.true
 
 pub returns-after-loop-done : goal.returns-after-loop-done
-returns-after-loop-done c = ended 10 _ _ _ _ _ c.loop-done.invariant.2 c.loop-done-test.false
+returns-after-loop-done c = ended 10 _ _ _ _ _ c.loop-done.invariant.1 c.loop-done-test.false
