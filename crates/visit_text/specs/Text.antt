@@ -8,7 +8,8 @@ use Rattle.visit_place.specs.declared.Place.{Place}
 use Rattle.visit_date.specs.Dates.{date}
 use Rattle.visit_date.specs.declared.Moment.{Moment}
 use Rattle.visit_figures.specs.Figures as figures
-use Rattle.bench_page.specs.Page.{letters, written}
+use Rattle.bench_page.specs.declared.Page.{Page}
+use Rattle.bench_page.specs.Page.{letters, ◌▹◌}
 use denote.Ref.{MutBor}
 use Rattle.bench_row.specs.Row.{filled}
 
@@ -58,10 +59,9 @@ unfoldable pub answered : ℕ → List ℕ → (ℕ → List ℕ) → Answer →
 answered level name shown a = named level name ++ answer shown a
 
 -- a closure that writes a value as it is shown
-abbrev pub Shows : (ℕ → MutBor (List ℕ) → ℕ → ℕ → MutBor (List ℕ) → Type 0) → (ℕ → List ℕ) → Type 0
+abbrev pub Shows : (ℕ → MutBor Page → Unit {0} → MutBor Page → Type 0) → (ℕ → List ℕ) → Type 0
 Shows writes shown =
-    (word at next : ℕ) (page after : MutBor (List ℕ)) → word < 2 ^ 32 → at < 2 ^ 64 → writes word page at next after
-    → (after.now, next) ≡ written (shown word) (page.now, at)
+    (word : ℕ) (page after : MutBor Page) → word < 2 ^ 32 → writes word page tt after → after.now ≡ page.now ▹ shown word
 
 unfoldable pub temperature : ℕ → Answer → List ℕ
 temperature level a = answered level (letters "temperature ") figures.temperature a
