@@ -7,22 +7,21 @@ use lib.Dec.{ltb}
 use mathlib.Core.List.{List, [], ◌∷◌, ◌++◌}
 use mathlib.Core.Path.{◌≡◌, refl}
 use Rattle.bench_page.specs.declared.Page.{Page}
-use Rattle.bench_page.specs.Page.{written_byte, written, ◌▹◌}
+use Rattle.bench_page.specs.Page.{Held, held, written_byte, written, ◌▹◌}
 use Rattle.bench_page.specs.Digits.{last_digit, spelled, decimal}
 
-pub written-append : (s t : List ℕ) (p : List ℕ × ℕ) → written (s ++ t) p ≡ written t (written s p)
+pub written-append : (s t : List ℕ) (h : Held) → written (s ++ t) h ≡ written t (written s h)
 unfolding written
-written-append [] t p = refl
-written-append (b ∷ s) t p = written-append s t (written_byte b p)
+written-append [] t h = refl
+written-append (b ∷ s) t h = written-append s t (written_byte b h)
 
 -- a text written and then another is both written
 pub joined : (s t : List ℕ) (p : Page) {q r : Page} → q ≡ p ▹ s → r ≡ q ▹ t → r ≡ p ▹ (s ++ t)
-joined s t p e f = rw (written-append s t (p.out.now, p.at)) (rw e at f)
+joined s t p e f = rw (written-append s t (held p)) (rw e at f)
 
--- a text of no bytes leaves the page
-pub nothing : (p : Page) → p ▹ [] ≡ p
-unfolding written
-nothing p = refl
+-- a byte and then a text
+pub first : (byte : ℕ) (text : List ℕ) (p : Page) {q r : Page} → q ≡ p ▹ byte ∷ [] → r ≡ q ▹ text → r ≡ p ▹ byte ∷ text
+first byte text p e f = joined (byte ∷ []) text p e f
 
 -- so many more digits hold every number below this
 abbrev bound : ℕ → ℕ

@@ -1,17 +1,12 @@
--- Texts one after another; long division, one decimal on and at its end.
+-- Long division, one decimal on and at its end.
 use Rattle.std.proofs.Common.{ℕ, suc, ◌+◌, ◌-◌, ◌*◌, ◌/◌, ◌%◌, ◌≤◌, ◌<◌}
 use Rattle.std.proofs.Common.{arith}
 use borrow.Author.Tests.{eq-eqb, ne_eqb}
-use Rattle.std.proofs.Common.{List, [], ◌∷◌}
+use Rattle.std.proofs.Common.{[], ◌∷◌}
 use Rattle.std.proofs.Common.{◌≡◌}
 use Rattle.bench_page.specs.declared.Page.{Page}
 use Rattle.bench_page.specs.Page.{written, ◌▹◌}
-use Rattle.bench_page.proofs.Laws.{joined}
 use Rattle.visit_figures.specs.Figures.{digit, decimals}
-
--- a byte and then a text
-pub first : (byte : ℕ) (text : List ℕ) (page : Page) {a b : Page} → a ≡ page ▹ byte ∷ [] → b ≡ a ▹ text → b ≡ page ▹ byte ∷ text
-first byte text page e f = joined (byte ∷ []) text page e f
 
 module _ (places done left unit : ℕ) (p whole : Page) (inv : p ▹ decimals (places - done) left unit ≡ whole) where
   pub ended : places ≤ done → p ≡ whole

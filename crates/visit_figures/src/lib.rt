@@ -96,7 +96,7 @@ pub fn write_reason(number: u32, page: &mut Page)
 }
 
 // Writes a temperature with no unit.
-#[tactic(auto, using(crate::proofs::Laws::first), unfolding(crate::specs::Figures::degrees))]
+#[tactic(auto, using(bench_page::proofs::Laws::first), unfolding(crate::specs::Figures::degrees))]
 fn write_degrees(word: u32, page: &mut Page)
     ensures { page.new ≡ page.old ▹ text.degrees word }
 {
@@ -109,7 +109,7 @@ fn write_degrees(word: u32, page: &mut Page)
 }
 
 // Writes an amount that counts parts of a unit: the whole units, and a point and the decimals of the rest where there is one.
-#[tactic(auto, using(bench_page::proofs::Laws::joined, crate::proofs::Laws::first), unfolding(crate::specs::Figures::amount))]
+#[tactic(auto, using(bench_page::proofs::Laws::joined, bench_page::proofs::Laws::first), unfolding(crate::specs::Figures::amount))]
 fn write_amount(word: u32, unit: u32, page: &mut Page)
     requires { (0 < unit) × (unit < 65536) }
     ensures { page.new ≡ page.old ▹ text.amount word unit }
