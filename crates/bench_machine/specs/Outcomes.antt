@@ -9,7 +9,8 @@ use Rattle.machine.specs.declared.Outcome.{Outcome}
 use Rattle.machine.specs.declared.Tally.{Tally}
 use Rattle.machine.specs.Event.{stepped, left_in}
 use Rattle.machine.specs.State.{fresh_after}
-use Rattle.bench_page.specs.Page.{Page, letters, ◌▹◌}
+use Rattle.bench_page.specs.declared.Page.{Page}
+use Rattle.bench_page.specs.Page.{letters, ◌▹◌}
 use Rattle.bench_page.specs.Digits.{decimal}
 use Rattle.bench_lent.specs.Lent.{lent_of}
 use Rattle.bench_outcome.specs.declared.Said.{Said}

@@ -11,67 +11,56 @@ ghost use Rattle.bench_machine.specs.Outcomes as outcomes;
 ghost use Rattle.bench_machine.specs.Outcomes.{newline};
 
 use bench_outcome::{Said, Shape};
+use bench_page::Page;
 use kinds::Kind;
 use machine::{Event, Machine, Outcome, Tally};
 
-// The machine after a command, and the page's next place.
-#[derive(Clone, Copy)]
-pub struct Answered {
-    pub machine: Machine,
-    pub at: usize,
-}
-
 // Writes a line with what an event hands back, and gives the machine after it.
-pub fn event(m: Machine, e: Event, out: &mut [u8], at: usize) -> Answered
-    ensures { (result.machine, (out.new, result.at)) ≡ outcomes.event m e (out.old, at) }
+pub fn event(m: Machine, e: Event, page: &mut Page) -> Machine
+    ensures { (result, page.new) ≡ outcomes.event m e page.old }
 {
     let outcome = machine_step::step(m, e);
-    let next = write_said(said_by(outcome), shape_of(e), out, at);
-    Answered {
-        machine: outcome.machine,
-        at: next,
-    }
+    write_said(said_by(outcome), shape_of(e), page);
+    outcome.machine
 }
 
 // Writes a line with the ledger and the names of what stands.
-pub fn ledger(m: Machine, out: &mut [u8], at: usize) -> usize
-    ensures { (out.new, result) ≡ (out.old, at) ▹ outcomes.tally (tallied m) ▹ newline }
+pub fn ledger(m: Machine, page: &mut Page)
+    ensures { page.new ≡ page.old ▹ outcomes.tally (tallied m) ▹ newline }
 {
-    write_tally(machine_conversion::tally(m), out, at)
+    write_tally(machine_conversion::tally(m), page);
 }
 
 // Gives the fresh machine of a kind of part as after so many conversions, and writes a line that it is done.
-pub fn fresh(kind: Kind, n: u32, out: &mut [u8], at: usize) -> Answered
-    ensures { (result.machine, (out.new, result.at)) ≡ outcomes.fresh kind n (out.old, at) }
+pub fn fresh(kind: Kind, n: u32, page: &mut Page) -> Machine
+    ensures { (result, page.new) ≡ outcomes.fresh kind n page.old }
 {
-    Answered {
-        machine: machine_start::fresh_after(kind, n),
-        at: write_done(out, at),
-    }
+    write_done(page);
+    machine_start::fresh_after(kind, n)
 }
 
 // Writes a line with what an outcome says.
-fn write_said(said: Said, shape: Shape, out: &mut [u8], at: usize) -> usize
-    ensures { (out.new, result) ≡ (out.old, at) ▹ shown.text said shape ▹ newline }
+fn write_said(said: Said, shape: Shape, page: &mut Page)
+    ensures { page.new ≡ page.old ▹ shown.text said shape ▹ newline }
 {
-    let next = bench_outcome::write_said(said, shape, out, at);
-    bench_page::write_text(b"\n", out, next)
+    bench_outcome::write_said(said, shape, page);
+    page.write_text(b"\n");
 }
 
 // Writes a line with the ledger and the names of what stands.
-fn write_tally(tally: Tally, out: &mut [u8], at: usize) -> usize
-    ensures { (out.new, result) ≡ (out.old, at) ▹ outcomes.tally tally ▹ newline }
+fn write_tally(tally: Tally, page: &mut Page)
+    ensures { page.new ≡ page.old ▹ outcomes.tally tally ▹ newline }
 {
-    let next = bench_outcome::write_tally(tally, out, at);
-    bench_page::write_text(b"\n", out, next)
+    bench_outcome::write_tally(tally, page);
+    page.write_text(b"\n");
 }
 
 // Writes a line that says that something is done.
-fn write_done(out: &mut [u8], at: usize) -> usize
-    ensures { (out.new, result) ≡ (out.old, at) ▹ decimal done ▹ newline }
+fn write_done(page: &mut Page)
+    ensures { page.new ≡ page.old ▹ decimal done ▹ newline }
 {
-    let next = bench_page::write_decimal(paper::DONE as u64, out, at);
-    bench_page::write_text(b"\n", out, next)
+    page.write_decimal(paper::DONE as u64);
+    page.write_text(b"\n");
 }
 
 // What an outcome says beside the machine.

@@ -5,4 +5,4 @@ use Rattle.bench_machine.proofs.event.Goals as goal
 pub returns : goal.returns
 unfolding event
 returns c =
-    rw (c.write_said-next.ensures, c.shape_of.ensures, c.said_by.ensures, c.step-outcome.ensures)
+    rw (c.write_said.ensures, c.shape_of.ensures, c.said_by.ensures, c.step-outcome.ensures)
