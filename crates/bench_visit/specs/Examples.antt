@@ -1,5 +1,6 @@
 -- Lines answered, by the definitions: a record written and read, and what is refused.
 use Rattle.std.specs.Prelude.{ℕ, List, [], ◌∷◌, ◌≡◌, refl, replicate}
+use Rattle.bench_page.specs.declared.Page.{Page}
 use Rattle.bench_page.specs.Page as page
 use Rattle.bench_page.specs.Page.{letters}
 use Rattle.bench_page.specs.Digits as spelt
@@ -36,22 +37,24 @@ unfolding visits.read visits.lent_steps visits.zeros lent.within visit.read_into
 records-read = record { whole = refl; too_short = refl; cut_short = refl }
 
 -- a line answered on a page of so many bytes: what it asks, after the place where its length ends, with a buffer of that length
-abbrev answered : ℕ → List ℕ → ℕ → ℕ → page.Page
-answered bytes asked from room = visits.write asked from room (replicate bytes 0, 0)
+abbrev answered : Page → ℕ → List ℕ → ℕ → ℕ → page.Held
+answered lent bytes asked from room =
+    page.held (visits.write asked from room (record { out = record lent.out { now = replicate bytes 0 }; at = 0 }))
 
-pub record Written : Type 0 where
+-- on whatever page is lent, so many bytes of it
+pub record Written (lent : Page) : Type 0 where
   pub whole :
-      answered 92 (letters "visit write 40 ( ( 7:-5:25767233:!10 ) )") 14 40
+      answered lent 92 (letters "visit write 40 ( ( 7:-5:25767233:!10 ) )") 14 40
       ≡ (letters "0 n=32 buf=01001D01001A02000400000007030004FFFFFFFB04000401892D41070002060AAAAAAAAAAAAAAAAA\n", 92)
-  pub no_steps : answered 31 (letters "visit write 9") 13 9 ≡ (letters "19 at=0 buf=AAAAAAAAAAAAAAAAAA\n", 31)
-  pub too_short : answered 8 (letters "visit write 0 ( 7:0:0:0 )") 13 0 ≡ (letters "9 buf=-\n", 8)
-  pub no_number : answered 15 (letters "visit write 1 ( 7:0:0:!0 )") 13 1 ≡ (letters "22 at=1 buf=AA\n", 15)
-  pub no_step : answered 15 (letters "visit write 1 ( x )") 13 1 ≡ (letters "? not a number\n", 15)
-  pub no-characters : answered 15 (letters "visit write 1 ( ") 13 1 ≡ (letters "? not a number\n", 15)
+  pub no_steps : answered lent 31 (letters "visit write 9") 13 9 ≡ (letters "19 at=0 buf=AAAAAAAAAAAAAAAAAA\n", 31)
+  pub too_short : answered lent 8 (letters "visit write 0 ( 7:0:0:0 )") 13 0 ≡ (letters "9 buf=-\n", 8)
+  pub no_number : answered lent 15 (letters "visit write 1 ( 7:0:0:!0 )") 13 1 ≡ (letters "22 at=1 buf=AA\n", 15)
+  pub no_step : answered lent 15 (letters "visit write 1 ( x )") 13 1 ≡ (letters "? not a number\n", 15)
+  pub no-characters : answered lent 15 (letters "visit write 1 ( ") 13 1 ≡ (letters "? not a number\n", 15)
 
-pub steps-written : Written
+pub steps-written : (lent : Page) → Written lent
 unfolding visits.write visits.written line.parted line.laid reading.step reading.slot_read reading.slot_of reading.before reading.after numbers.number_of numbers.decimal
     numbers.read_on numbers.digit_value numbers.letter_value text.word words.words words.step_from words.steps_first visit.write_into visit.write_steps writer.checked writer.turn
     writer.slot_fits writer.frames lent.within lent.filled lent.lent_of row.filled_from row.buffer spelt.decimal spelt.spelled spelt.shown spelt.pairs spelt.pair spelt.hex_digit
     page.written_byte page.written
-steps-written = record { whole = refl; no_steps = refl; too_short = refl; no_number = refl; no_step = refl; no-characters = refl }
+steps-written lent = record { whole = refl; no_steps = refl; too_short = refl; no_number = refl; no_step = refl; no-characters = refl }

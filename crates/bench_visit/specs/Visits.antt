@@ -4,7 +4,8 @@ use Rattle.paper.specs.Numbers.{done}
 use Rattle.paper.specs.Answers.{Answer}
 use Rattle.visit.specs.Words.{words_each}
 use Rattle.visit.specs.Lent.{write_into}
-use Rattle.bench_page.specs.Page.{Page, letters, ◌▹◌}
+use Rattle.bench_page.specs.declared.Page.{Page}
+use Rattle.bench_page.specs.Page.{letters, ◌▹◌}
 use Rattle.bench_page.specs.Digits.{decimal}
 use Rattle.bench_row.specs.Row.{filled, buffer}
 use Rattle.bench_numbers.specs.declared.Reason.TheVariants.{NotANumber}

@@ -4,6 +4,7 @@ ghost use Rattle.bench_page.specs.Page.{◌▹◌};
 ghost use Rattle.bench_visit.specs.Line as Line-of;
 ghost use Rattle.bench_visit.specs.Shown as text;
 
+use bench_page::Page;
 use visit::Step;
 
 // Lays the steps of a line in a list: those of the words that follow a place where a word ends.
@@ -40,30 +41,28 @@ fn lay(step: Step, k: usize, list: &mut [u32]) -> bool
 }
 
 // Writes the first n steps of a list, with single spaces between them.
-pub fn write(list: &[u32], n: usize, out: &mut [u8], at: usize) -> usize
-    ensures { (out.new, result) ≡ (out.old, at) ▹ text.steps n 0 list.now }
+pub fn write(list: &[u32], n: usize, page: &mut Page)
+    ensures { page.new ≡ page.old ▹ text.steps n 0 list.now }
 {
-    let mut next = at;
     for k in 0..n {
-        next = write_one(list, k, out, next);
+        write_one(list, k, page);
     }
-    next
 }
 
 // Writes the step at a place of a list, after a space where it is not the first.
-fn write_one(list: &[u32], k: usize, out: &mut [u8], at: usize) -> usize
-    ensures { (out.new, result) ≡ (out.old, at) ▹ text.one k list.now }
+fn write_one(list: &[u32], k: usize, page: &mut Page)
+    ensures { page.new ≡ page.old ▹ text.one k list.now }
 {
-    let next = write_gap(k, out, at);
-    bench_step::write(visit_step::step_at(list, k), out, next)
+    write_gap(k, page);
+    bench_step::write(visit_step::step_at(list, k), page);
 }
 
 // Writes the space that stands before every step but the first.
-fn write_gap(k: usize, out: &mut [u8], at: usize) -> usize
-    ensures { (out.new, result) ≡ (out.old, at) ▹ text.gap k }
+#[tactic(auto, unfolding(bench_page::specs::Page::written))]
+fn write_gap(k: usize, page: &mut Page)
+    ensures { page.new ≡ page.old ▹ text.gap k }
 {
-    if k == 0 {
-        return at;
+    if k > 0 {
+        page.write_text(b" ");
     }
-    bench_page::write_text(b" ", out, at)
 }

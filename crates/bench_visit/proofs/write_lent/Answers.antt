@@ -6,4 +6,4 @@ use Rattle.bench_visit.proofs.write_lent.Goals as goal
 pub returns : goal.returns
 unfolding written
 returns c =
-    rw (c.end.ensures, joined _ _ _ c.write_written-next.ensures c.write_buffer-end.ensures)
+    rw (c.end.ensures, joined _ _ _ c.write_written.ensures c.write_buffer.ensures)

@@ -4,4 +4,4 @@ use Rattle.bench_visit.proofs.steps.write_one.Goals as goal
 
 pub returns : goal.returns
 returns c =
-    rw (← c.step_at.ensures) (joined _ _ _ c.write_gap-next.ensures c.write.ensures)
+    rw (← c.step_at.ensures) (joined _ _ _ c.write_gap.ensures c.write.ensures)
