@@ -5,42 +5,42 @@ ghost use Rattle.std.specs.Prelude.{◌≡◌};
 ghost use Rattle.bench_page.specs.Page.{◌▹◌};
 ghost use Rattle.bench_calibration.specs.Words as text;
 
+use bench_page::Page;
 use calibration::{Calibration, HumidityWords, PressureWords, TemperatureWords, Words};
 
 // Writes the words that two blocks hold, or the number that refuses the blocks.
-pub fn write_calibration(known: Calibration, out: &mut [u8], at: usize) -> usize
-    ensures { (out.new, result) ≡ (out.old, at) ▹ text.calibration known }
+pub fn write_calibration(known: Calibration, page: &mut Page)
+    ensures { page.new ≡ page.old ▹ text.calibration known }
 {
     match known {
-        Ok(w) => write_words(w, out, at),
-        Err(refusal) => bench_page::write_decimal(refusal.number as u64, out, at),
+        Ok(w) => write_words(w, page),
+        Err(refusal) => page.write_decimal(refusal.number as u64),
     }
 }
 
 // Writes a chip's words.
-fn write_words(w: Words, out: &mut [u8], at: usize) -> usize
-    ensures { (out.new, result) ≡ (out.old, at) ▹ text.words w }
+fn write_words(w: Words, page: &mut Page)
+    ensures { page.new ≡ page.old ▹ text.words w }
 {
-    let a = write_temperature(w.temperature, out, at);
-    let b = write_pressure(w.pressure, out, a);
-    write_humidity(w.humidity, out, b)
+    write_temperature(w.temperature, page);
+    write_pressure(w.pressure, page);
+    write_humidity(w.humidity, page);
 }
 
 // Writes T1 to T3, after the number that says they are known.
-fn write_temperature(w: TemperatureWords, out: &mut [u8], at: usize) -> usize
-    ensures { (out.new, result) ≡ (out.old, at) ▹ text.temperature w }
+fn write_temperature(w: TemperatureWords, page: &mut Page)
+    ensures { page.new ≡ page.old ▹ text.temperature w }
 {
     bench_row::fill_signed(
         b"# T1=# T2=# T3=#",
         &[paper::DONE as i32, w.t1 as i32, w.t2 as i32, w.t3 as i32],
-        out,
-        at,
-    )
+        page,
+    );
 }
 
 // Writes P1 to P9.
-fn write_pressure(w: PressureWords, out: &mut [u8], at: usize) -> usize
-    ensures { (out.new, result) ≡ (out.old, at) ▹ text.pressure w }
+fn write_pressure(w: PressureWords, page: &mut Page)
+    ensures { page.new ≡ page.old ▹ text.pressure w }
 {
     bench_row::fill_signed(
         b" P1=# P2=# P3=# P4=# P5=# P6=# P7=# P8=# P9=#",
@@ -55,14 +55,13 @@ fn write_pressure(w: PressureWords, out: &mut [u8], at: usize) -> usize
             w.p8 as i32,
             w.p9 as i32,
         ],
-        out,
-        at,
-    )
+        page,
+    );
 }
 
 // Writes H1 to H6.
-fn write_humidity(w: HumidityWords, out: &mut [u8], at: usize) -> usize
-    ensures { (out.new, result) ≡ (out.old, at) ▹ text.humidity w }
+fn write_humidity(w: HumidityWords, page: &mut Page)
+    ensures { page.new ≡ page.old ▹ text.humidity w }
 {
     bench_row::fill_signed(
         b" H1=# H2=# H3=# H4=# H5=# H6=#",
@@ -74,7 +73,6 @@ fn write_humidity(w: HumidityWords, out: &mut [u8], at: usize) -> usize
             w.h5 as i32,
             w.h6 as i32,
         ],
-        out,
-        at,
-    )
+        page,
+    );
 }

@@ -7,6 +7,7 @@ ghost use Rattle.bench_row.specs.Row.{buffer};
 ghost use Rattle.bench_outcome.specs.Outcomes as text;
 
 use bench_bytes::front;
+use bench_page::Page;
 use machine::{Codes, Tally};
 
 // What an outcome says beside the machine.
@@ -30,36 +31,37 @@ pub enum Shape {
 }
 
 // Writes what was said, in a shape.
-pub fn write_said(said: Said, shape: Shape, out: &mut [u8], at: usize) -> usize
-    ensures { (out.new, result) ≡ (out.old, at) ▹ text.text said shape }
+pub fn write_said(said: Said, shape: Shape, page: &mut Page)
+    ensures { page.new ≡ page.old ▹ text.text said shape }
 {
     match shape {
-        Shape::Number => bench_page::write_decimal(said.answer as u64, out, at),
-        Shape::Byte => write_value(said.answer, said.value, out, at),
+        Shape::Number => page.write_decimal(said.answer as u64),
+        Shape::Byte => write_value(said.answer, said.value, page),
         Shape::Close(length) => {
-            let next = write_closing(said, out, at);
-            write_left(said, length, out, next)
+            write_closing(said, page);
+            write_left(said, length, page);
         }
     }
 }
 
 // Writes a number, and where it is done the register's value.
-fn write_value(answer: u8, value: u8, out: &mut [u8], at: usize) -> usize
-    ensures { (out.new, result) ≡ (out.old, at) ▹ text.given answer value }
+fn write_value(answer: u8, value: u8, page: &mut Page)
+    ensures { page.new ≡ page.old ▹ text.given answer value }
 {
     if answer == paper::DONE {
-        return bench_row::fill(b"# @", &[answer as u64, value as u64], out, at);
+        bench_row::fill(b"# @", &[answer as u64, value as u64], page);
+    } else {
+        page.write_decimal(answer as u64);
     }
-    bench_page::write_decimal(answer as u64, out, at)
 }
 
 // Writes a close's number, and where it is done what the burst showed.
-fn write_closing(said: Said, out: &mut [u8], at: usize) -> usize
-    ensures { (out.new, result) ≡ (out.old, at) ▹ text.closing said }
+fn write_closing(said: Said, page: &mut Page)
+    ensures { page.new ≡ page.old ▹ text.closing said }
 {
     if said.answer == paper::DONE {
-        let next = write_whole(said.whole, out, at);
-        return bench_row::fill(
+        write_whole(said.whole, page);
+        bench_row::fill(
             b" n=# codes=#,#,# before=#",
             &[
                 said.number as u64,
@@ -68,40 +70,41 @@ fn write_closing(said: Said, out: &mut [u8], at: usize) -> usize
                 said.codes.humidity as u64,
                 said.delivered as u64,
             ],
-            out,
-            next,
+            page,
         );
+    } else {
+        page.write_decimal(said.answer as u64);
     }
-    bench_page::write_decimal(said.answer as u64, out, at)
 }
 
 // Writes whether a burst was whole.
-fn write_whole(whole: bool, out: &mut [u8], at: usize) -> usize
-    ensures { (out.new, result) ≡ (out.old, at) ▹ text.whole whole }
+fn write_whole(whole: bool, page: &mut Page)
+    ensures { page.new ≡ page.old ▹ text.whole whole }
 {
     if whole {
-        bench_page::write_text(b"0 whole", out, at)
+        page.write_text(b"0 whole");
     } else {
-        bench_page::write_text(b"0 partial", out, at)
+        page.write_text(b"0 partial");
     }
 }
 
 // Writes the lent buffer: the first bytes of a whole close, as many as were lent, and otherwise as it was lent.
-fn write_left(said: Said, length: usize, out: &mut [u8], at: usize) -> usize
-    ensures { (out.new, result) ≡ (out.old, at) ▹ buffer (text.left said length) }
+fn write_left(said: Said, length: usize, page: &mut Page)
+    ensures { page.new ≡ page.old ▹ buffer (text.left said length) }
 {
     if said.whole {
         let bytes = said.bytes;
-        return bench_row::write_buffer(front(&bytes, length), out, at);
+        bench_row::write_buffer(front(&bytes, length), page);
+    } else {
+        let lent = bench_lent::filled();
+        let n = bench_lent::within(length);
+        bench_row::write_buffer(&lent[..n], page);
     }
-    let lent = bench_lent::filled();
-    let n = bench_lent::within(length);
-    bench_row::write_buffer(&lent[..n], out, at)
 }
 
 // Writes the counts and what stands, by name.
-pub fn write_tally(tally: Tally, out: &mut [u8], at: usize) -> usize
-    ensures { (out.new, result) ≡ (out.old, at) ▹ text.tally tally }
+pub fn write_tally(tally: Tally, page: &mut Page)
+    ensures { page.new ≡ page.old ▹ text.tally tally }
 {
     bench_row::fill(
         b"begun=# delivered=# overwritten=# abandoned=# standing=# running=# waiting=# shown=#",
@@ -115,7 +118,6 @@ pub fn write_tally(tally: Tally, out: &mut [u8], at: usize) -> usize
             tally.waiting as u64,
             tally.unread as u64,
         ],
-        out,
-        at,
-    )
+        page,
+    );
 }

@@ -7,19 +7,20 @@ ghost use Rattle.std.specs.Float.Ieee.{to_bits};
 ghost use Rattle.bench_page.specs.Page.{◌▹◌};
 ghost use Rattle.bench_rooms.specs.Map as text;
 
+use bench_page::Page;
 use rooms::{Cell, Cells, MapPoint, Verdict, Verdicts};
 
-// Three on a line stand out each time: a closure for one of them would take the page and the place as these calls do, and be longer.
+// Three on a line stand out each time: a closure for one of them would take the page as these calls do, and be longer.
 
 // Writes a map point.
-pub fn point(point: MapPoint, out: &mut [u8], at: usize) -> usize
-    ensures { (out.new, result) ≡ (out.old, at) ▹ text.point point }
+pub fn point(point: MapPoint, page: &mut Page)
+    ensures { page.new ≡ page.old ▹ text.point point }
 {
-    let a = write_double(b't', point.temperature, out, at);
-    let b = bench_page::write_byte(b' ', out, a);
-    let c = write_double(b'p', point.pressure, out, b);
-    let d = bench_page::write_byte(b' ', out, c);
-    let e = write_double(b'h', point.humidity, out, d);
+    write_double(b't', point.temperature, page);
+    page.write_byte(b' ');
+    write_double(b'p', point.pressure, page);
+    page.write_byte(b' ');
+    write_double(b'h', point.humidity, page);
     bench_row::fill(
         b" known=#,#,#",
         &[
@@ -27,31 +28,30 @@ pub fn point(point: MapPoint, out: &mut [u8], at: usize) -> usize
             point.pressure_known as u64,
             point.humidity_known as u64,
         ],
-        out,
-        e,
-    )
+        page,
+    );
 }
 
 // Writes the three cells of a reading.
-pub fn cells(cells: Cells, out: &mut [u8], at: usize) -> usize
-    ensures { (out.new, result) ≡ (out.old, at) ▹ text.cells cells }
+pub fn cells(cells: Cells, page: &mut Page)
+    ensures { page.new ≡ page.old ▹ text.cells cells }
 {
-    let a = write_cell(b't', cells.temperature, out, at);
-    let b = bench_page::write_byte(b' ', out, a);
-    let c = write_cell(b'p', cells.pressure, out, b);
-    let d = bench_page::write_byte(b' ', out, c);
-    write_cell(b'h', cells.humidity, out, d)
+    write_cell(b't', cells.temperature, page);
+    page.write_byte(b' ');
+    write_cell(b'p', cells.pressure, page);
+    page.write_byte(b' ');
+    write_cell(b'h', cells.humidity, page);
 }
 
 // Writes what two rooms are to each other.
-pub fn verdicts(verdicts: Verdicts, out: &mut [u8], at: usize) -> usize
-    ensures { (out.new, result) ≡ (out.old, at) ▹ text.verdicts verdicts }
+pub fn verdicts(verdicts: Verdicts, page: &mut Page)
+    ensures { page.new ≡ page.old ▹ text.verdicts verdicts }
 {
-    let a = write_verdict(b't', verdicts.temperature, out, at);
-    let b = bench_page::write_byte(b' ', out, a);
-    let c = write_verdict(b'p', verdicts.pressure, out, b);
-    let d = bench_page::write_byte(b' ', out, c);
-    write_verdict(b'h', verdicts.humidity, out, d)
+    write_verdict(b't', verdicts.temperature, page);
+    page.write_byte(b' ');
+    write_verdict(b'p', verdicts.pressure, page);
+    page.write_byte(b' ');
+    write_verdict(b'h', verdicts.humidity, page);
 }
 
 // The bits of a double.
@@ -67,8 +67,8 @@ fn bits(x: f64) -> u64
 
 // Writes a double after its letter: its bits, in 16 hex digits.
 // A mark shows the lowest byte of its number, so each is divided: out of `to_be_bytes` each of the eight would be widened by hand again.
-fn write_double(letter: u8, x: f64, out: &mut [u8], at: usize) -> usize
-    ensures { (out.new, result) ≡ (out.old, at) ▹ text.double letter x }
+fn write_double(letter: u8, x: f64, page: &mut Page)
+    ensures { page.new ≡ page.old ▹ text.double letter x }
 {
     let n = bits(x);
     bench_row::fill(
@@ -83,31 +83,30 @@ fn write_double(letter: u8, x: f64, out: &mut [u8], at: usize) -> usize
             n / 0x100,
             n,
         ],
-        out,
-        at,
-    )
+        page,
+    );
 }
 
 // Writes a cell after its letter: its double, or the number in its place.
-fn write_cell(letter: u8, cell: Cell, out: &mut [u8], at: usize) -> usize
-    ensures { (out.new, result) ≡ (out.old, at) ▹ text.cell letter cell }
+fn write_cell(letter: u8, cell: Cell, page: &mut Page)
+    ensures { page.new ≡ page.old ▹ text.cell letter cell }
 {
     match cell {
         Cell::Temperature(x) | Cell::Pressure(x) | Cell::Humidity(x) => {
-            write_double(letter, x, out, at)
+            write_double(letter, x, page)
         }
-        Cell::Missing(m) => bench_row::fill(&[letter, b'!', b'#'], &[m.number as u64], out, at),
+        Cell::Missing(m) => bench_row::fill(&[letter, b'!', b'#'], &[m.number as u64], page),
     }
 }
 
 // Writes a verdict after its letter.
-fn write_verdict(letter: u8, verdict: Verdict, out: &mut [u8], at: usize) -> usize
-    ensures { (out.new, result) ≡ (out.old, at) ▹ text.verdict letter verdict }
+fn write_verdict(letter: u8, verdict: Verdict, page: &mut Page)
+    ensures { page.new ≡ page.old ▹ text.verdict letter verdict }
 {
-    let next = bench_page::write_byte(letter, out, at);
+    page.write_byte(letter);
     match verdict {
-        Verdict::Agree => bench_page::write_text(b"=agree", out, next),
-        Verdict::Differ => bench_page::write_text(b"=differ", out, next),
-        Verdict::Unknown => bench_page::write_text(b"=unknown", out, next),
+        Verdict::Agree => page.write_text(b"=agree"),
+        Verdict::Differ => page.write_text(b"=differ"),
+        Verdict::Unknown => page.write_text(b"=unknown"),
     }
 }

@@ -6,6 +6,7 @@ ghost use Rattle.bench_page.specs.Page.{◌▹◌};
 ghost use Rattle.bench_step.specs.Reading as reading;
 ghost use Rattle.bench_step.specs.Showing as text;
 
+use bench_page::Page;
 use parts::after;
 use visit::{Answer, Slot, Step};
 
@@ -51,53 +52,54 @@ fn read_slot(word: &[u8]) -> Step
 
 // Writes the word of a step.
 #[tactic(auto, unfolding(crate::specs::Showing::step))]
-pub fn write(step: Step, out: &mut [u8], at: usize) -> usize
-    ensures { (out.new, result) ≡ (out.old, at) ▹ text.step step }
+pub fn write(step: Step, page: &mut Page)
+    ensures { page.new ≡ page.old ▹ text.step step }
 {
     match step {
-        Step::Open => bench_page::write_text(b"(", out, at),
-        Step::Close => bench_page::write_text(b")", out, at),
-        Step::Stray => bench_page::write_text(b"?", out, at),
-        Step::Slot(slot) => write_slot(slot, out, at),
+        Step::Open => page.write_text(b"("),
+        Step::Close => page.write_text(b")"),
+        Step::Stray => page.write_text(b"?"),
+        Step::Slot(slot) => write_slot(slot, page),
     }
 }
 
 // Writes a slot: its time, and a colon before each channel.
-fn write_slot(slot: Slot, out: &mut [u8], at: usize) -> usize
-    ensures { (out.new, result) ≡ (out.old, at) ▹ text.slot slot }
+fn write_slot(slot: Slot, page: &mut Page)
+    ensures { page.new ≡ page.old ▹ text.slot slot }
 {
-    let a = bench_page::write_decimal(u64::from(slot.time), out, at);
-    let b = write_temperature(slot.temperature, out, a);
-    let c = write_amount(slot.pressure, out, b);
-    write_amount(slot.humidity, out, c)
+    page.write_decimal(u64::from(slot.time));
+    write_temperature(slot.temperature, page);
+    write_amount(slot.pressure, page);
+    write_amount(slot.humidity, page);
 }
 
 // Writes a pressure or a humidity, or a missing one's number.
-fn write_amount(answer: Answer, out: &mut [u8], at: usize) -> usize
-    ensures { (out.new, result) ≡ (out.old, at) ▹ text.amount answer }
+fn write_amount(answer: Answer, page: &mut Page)
+    ensures { page.new ≡ page.old ▹ text.amount answer }
 {
     match answer {
-        Ok(value) => bench_row::fill(b":#", &[u64::from(value)], out, at),
-        Err(absent) => bench_row::fill(b":!#", &[u64::from(absent.number)], out, at),
+        Ok(value) => bench_row::fill(b":#", &[u64::from(value)], page),
+        Err(absent) => bench_row::fill(b":!#", &[u64::from(absent.number)], page),
     }
 }
 
 // Writes a temperature with its sign, or a missing one's number.
-fn write_temperature(answer: Answer, out: &mut [u8], at: usize) -> usize
-    ensures { (out.new, result) ≡ (out.old, at) ▹ text.temperature answer }
+fn write_temperature(answer: Answer, page: &mut Page)
+    ensures { page.new ≡ page.old ▹ text.temperature answer }
 {
     match answer {
-        Ok(word) => write_signed(word, out, at),
-        Err(_) => write_amount(answer, out, at),
+        Ok(word) => write_signed(word, page),
+        Err(_) => write_amount(answer, page),
     }
 }
 
 // Writes a signed number that is given by its two's complement.
-fn write_signed(word: u32, out: &mut [u8], at: usize) -> usize
-    ensures { (out.new, result) ≡ (out.old, at) ▹ text.signed word }
+fn write_signed(word: u32, page: &mut Page)
+    ensures { page.new ≡ page.old ▹ text.signed word }
 {
     if word < 0x80000000 {
-        return bench_row::fill(b":#", &[u64::from(word)], out, at);
+        bench_row::fill(b":#", &[u64::from(word)], page);
+    } else {
+        bench_row::fill(b":-#", &[0x100000000 - u64::from(word)], page);
     }
-    bench_row::fill(b":-#", &[0x100000000 - u64::from(word)], out, at)
 }

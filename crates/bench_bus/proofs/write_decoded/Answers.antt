@@ -5,4 +5,4 @@ use Rattle.bench_bus.proofs.write_decoded.Goals as goal
 
 pub returns : goal.returns
 unfolding message
-returns c = joined _ _ _ c.write_found-next.ensures c.write_buffer.ensures
+returns c = joined _ _ _ c.write_found.ensures c.write_buffer.ensures

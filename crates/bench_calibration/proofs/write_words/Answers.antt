@@ -6,5 +6,5 @@ use Rattle.bench_calibration.proofs.write_words.Goals as goal
 pub returns : goal.returns
 unfolding words
 returns c =
-    joined _ _ _ c.write_temperature-a.ensures
-    (joined _ _ _ c.write_pressure-b.ensures c.write_humidity.ensures)
+    joined _ _ _ c.write_temperature.ensures
+    (joined _ _ _ c.write_pressure.ensures c.write_humidity.ensures)

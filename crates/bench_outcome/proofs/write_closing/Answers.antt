@@ -8,4 +8,4 @@ use Rattle.bench_outcome.proofs.write_closing.Goals as goal
 pub returns-then-said-eq-DONE : goal.returns-then-said-eq-DONE
 unfolding burst
 returns-then-said-eq-DONE c =
-    rw (eq-eqb _ _ c.if-said-eq-DONE.true) (joined _ _ _ c.write_whole-next.ensures (rw flag at c.fill.ensures))
+    rw (eq-eqb _ _ c.if-said-eq-DONE.true) (joined _ _ _ c.write_whole.ensures (rw flag at c.fill.ensures))

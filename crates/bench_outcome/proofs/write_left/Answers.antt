@@ -2,6 +2,6 @@
 use Rattle.bench_lent.specs.Lent.{lent_of}
 use Rattle.bench_outcome.proofs.write_left.Goals as goal
 
-pub returns : goal.returns
+pub returns-else-said : goal.returns-else-said
 unfolding lent_of
-returns c = rw (c.if-said.false, c.write_buffer-2.ensures, c.within-n.ensures.0, c.filled-lent.ensures.0)
+returns-else-said c = rw (c.if-said.false, c.write_buffer-else-said.ensures, c.within-n.ensures.0, c.filled-lent.ensures.0)

@@ -5,4 +5,4 @@ use Rattle.bench_outcome.proofs.write_said.Goals as goal
 
 pub returns-in-Close : goal.returns-in-Close
 unfolding closed
-returns-in-Close c = rw c.in-Close.is (joined _ _ _ c.write_closing-next.ensures c.write_left.ensures)
+returns-in-Close c = rw c.in-Close.is (joined _ _ _ c.write_closing.ensures c.write_left.ensures)

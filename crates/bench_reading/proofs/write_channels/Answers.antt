@@ -6,5 +6,5 @@ use Rattle.bench_reading.proofs.write_channels.Goals as goal
 pub returns : goal.returns
 unfolding channels
 returns c =
-    joined _ _ _ c.write_temperature-a.ensures
-    (joined _ _ _ c.write_channel-b.ensures c.write_channel.ensures)
+    joined _ _ _ c.write_temperature.ensures
+    (joined _ _ _ c.write_channel.ensures c.write_channel-2.ensures)

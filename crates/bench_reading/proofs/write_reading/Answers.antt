@@ -5,4 +5,4 @@ use Rattle.bench_reading.proofs.write_reading.Goals as goal
 
 pub returns : goal.returns
 unfolding reading
-returns c = joined _ _ _ c.write_decimal-next.ensures c.write_channels.ensures
+returns c = joined _ _ _ c.write_decimal.ensures c.write_channels.ensures

@@ -6,5 +6,5 @@ use Rattle.bench_rooms.proofs.cells.Goals as goal
 pub returns : goal.returns
 unfolding cells
 returns c =
-    three _ _ _ _ c.write_cell-a.ensures c.write_byte-b.ensures c.write_cell-c.ensures
-    c.write_byte-d.ensures c.write_cell.ensures
+    three _ _ _ _ c.write_cell.ensures c.write_byte.ensures c.write_cell-2.ensures
+    c.write_byte-2.ensures c.write_cell-3.ensures

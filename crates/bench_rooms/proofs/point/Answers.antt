@@ -7,6 +7,6 @@ use Rattle.bench_rooms.proofs.point.Goals as goal
 pub returns : goal.returns
 unfolding point
 returns c =
-    three _ _ _ _ c.write_double-a.ensures c.write_byte-b.ensures c.write_double-c.ensures
-    c.write_byte-d.ensures
-    (joined _ _ _ c.write_double-e.ensures (rw (flagged, flagged, flagged) at c.fill.ensures))
+    three _ _ _ _ c.write_double.ensures c.write_byte.ensures c.write_double-2.ensures
+    c.write_byte-2.ensures
+    (joined _ _ _ c.write_double-3.ensures (rw (flagged, flagged, flagged) at c.fill.ensures))

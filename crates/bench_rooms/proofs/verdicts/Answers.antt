@@ -6,5 +6,5 @@ use Rattle.bench_rooms.proofs.verdicts.Goals as goal
 pub returns : goal.returns
 unfolding verdicts
 returns c =
-    three _ _ _ _ c.write_verdict-a.ensures c.write_byte-b.ensures c.write_verdict-c.ensures
-    c.write_byte-d.ensures c.write_verdict.ensures
+    three _ _ _ _ c.write_verdict.ensures c.write_byte.ensures c.write_verdict-2.ensures
+    c.write_byte-2.ensures c.write_verdict-3.ensures
