@@ -1,6 +1,7 @@
 // What is said on standard error, and on descriptor 4 how far the work is.
 use crate::rows::Fault;
 use bench_bytes::front;
+use bench_page::Page;
 use std::fs;
 use std::fs::{File, OpenOptions};
 use std::io::{IsTerminal, Write};
@@ -17,7 +18,12 @@ pub(crate) fn say(rt: &HostRuntime, line: &[u8]) {
 // Says a line that is filled with numbers.
 pub(crate) fn say_numbers(rt: &HostRuntime, form: &[u8], numbers: &[u64]) {
     let mut line = [0u8; 4096];
-    let at = bench_row::fill(form, numbers, &mut line, 0);
+    let mut page = Page {
+        out: &mut line,
+        at: 0,
+    };
+    bench_row::fill(form, numbers, &mut page);
+    let at = page.at;
     say(rt, front(&line, at));
 }
 
@@ -52,12 +58,16 @@ fn is_device(rt: &HostRuntime) -> bool {
 pub(crate) fn say_progress(watcher: &mut Option<File>, done: usize, count: usize) {
     if let Some(terminal) = watcher {
         let mut line = [0u8; 128];
-        let at = bench_row::fill(
+        let mut page = Page {
+            out: &mut line,
+            at: 0,
+        };
+        bench_row::fill(
             b"\rday: # of # readings",
             &[done as u64, count as u64],
-            &mut line,
-            0,
+            &mut page,
         );
+        let at = page.at;
         let _ = terminal.write_all(front(&line, at));
     }
 }
@@ -66,22 +76,24 @@ pub(crate) fn say_progress(watcher: &mut Option<File>, done: usize, count: usize
 pub(crate) fn clear(watcher: &mut Option<File>, count: usize) {
     if let Some(terminal) = watcher {
         let mut line = [0u8; 128];
-        let size = bench_row::fill(
+        let mut page = Page {
+            out: &mut line,
+            at: 0,
+        };
+        bench_row::fill(
             b"day: # of # readings",
             &[count as u64, count as u64],
-            &mut line,
-            0,
+            &mut page,
         );
-        let a = bench_page::write_byte(b'\r', &mut line, 0);
-        let b = bench_page::write_text(
-            front(
-                b"                                                            ",
-                size,
-            ),
-            &mut line,
-            a,
-        );
-        let c = bench_page::write_byte(b'\r', &mut line, b);
-        let _ = terminal.write_all(front(&line, c));
+        let size = page.at;
+        page.at = 0;
+        page.write_byte(b'\r');
+        page.write_text(front(
+            b"                                                            ",
+            size,
+        ));
+        page.write_byte(b'\r');
+        let at = page.at;
+        let _ = terminal.write_all(front(&line, at));
     }
 }

@@ -4,6 +4,7 @@
 mod refusals; // what is said of a record that is refused
 
 use bench_bytes::front;
+use bench_page::Page;
 use refusals::Refused;
 use std::io;
 use std::io::Print;
@@ -17,19 +18,21 @@ const FULL: usize = 60000;
 
 // Writes the lines of so many steps, and the page out each time that it is nearly full.
 // Once a write has failed nothing more is written, so that no line is missing between two others.
-fn write_steps(output: io::Stdout, steps: &[u32], count: usize, page: &mut [u8]) -> io::Result<()> {
+fn write_steps(output: io::Stdout, steps: &[u32], count: usize, out: &mut [u8]) -> io::Result<()> {
     let mut place = visit_place::start();
-    let mut at = 0;
+    let mut page = Page { out, at: 0 };
     for k in 0..count {
+        let at = page.at;
         if at >= FULL {
-            output.write_all(front(page, at))?;
-            at = 0;
+            output.write_all(front(&*page.out, at))?;
+            page.at = 0;
         }
         let step = visit_step::step_at(steps, k);
         place = visit_place::after(place, step);
-        at = visit_text::write_step(place, step, page, at);
+        visit_text::write_step(place, step, &mut page);
     }
-    output.write_all(front(page, at))
+    let at = page.at;
+    output.write_all(front(&*page.out, at))
 }
 
 // Shows the steps of a record, or says that they could not be written, unless nobody reads them any more.
