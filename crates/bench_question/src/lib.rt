@@ -8,84 +8,70 @@ ghost use Rattle.bench_question.specs.Questions as text;
 
 use bench_bytes::{front, rest};
 use bench_command::{Question, Sent, Shown, Words};
+use bench_page::Page;
 use compensation::Answer;
 use kinds::Kind;
 use rooms::{Tolerances, Verdicts};
 
 // Answers a question, and writes a newline.
-pub fn reply(question: Question, bytes: &[u8], out: &mut [u8], at: usize) -> usize
-    ensures { (out.new, result) ≡ ended ((out.old, at) ▹ text.replied question bytes.now) }
+pub fn reply(question: Question, bytes: &[u8], page: &mut Page)
+    ensures { page.new ≡ ended (page.old ▹ text.replied question bytes.now) }
 {
-    let next = write_reply(question, bytes, out, at);
-    bench_phrases::end(out, next)
+    write_reply(question, bytes, page);
+    bench_phrases::end(page);
 }
 
 // Answers a question, but for the newline.
-fn write_reply(question: Question, bytes: &[u8], out: &mut [u8], at: usize) -> usize
-    ensures { (out.new, result) ≡ (out.old, at) ▹ text.replied question bytes.now }
+fn write_reply(question: Question, bytes: &[u8], page: &mut Page)
+    ensures { page.new ≡ page.old ▹ text.replied question bytes.now }
 {
     match question {
-        Question::Cal { one, two } => cal(one, two, bytes, out, at),
-        Question::Reading { kind, shown, sent } => reading(kind, shown, sent, bytes, out, at),
-        Question::WaitMaximum { t, p, h } => bench_waiting::wait_maximum(t, p, h, out, at),
-        Question::WaitTypical { t, p, h } => bench_waiting::wait_typical(t, p, h, out, at),
+        Question::Cal { one, two } => cal(one, two, bytes, page),
+        Question::Reading { kind, shown, sent } => reading(kind, shown, sent, bytes, page),
+        Question::WaitMaximum { t, p, h } => bench_waiting::wait_maximum(t, p, h, page),
+        Question::WaitTypical { t, p, h } => bench_waiting::wait_typical(t, p, h, page),
         Question::Poll { allowance, status } => bench_waiting::poll(
             front(bytes, status),
             allowance,
-            out,
-            at,
+            page,
         ),
         Question::BusWrite {
             device,
             pairs,
             room,
-        } => bench_bus::write(device, front(bytes, pairs), room, out, at),
+        } => bench_bus::write(device, front(bytes, pairs), room, page),
         Question::BusDecode { bus, message, room } => bench_bus::decode(
             bus,
             front(bytes, message),
             room,
-            out,
-            at,
+            page,
         ),
         Question::BusRead {
             device,
             register,
             room,
-        } => bench_bus::read(device, register, room, out, at),
-        Question::VisitRead { record, room } => bench_visit::read(
-            front(bytes, record),
-            room,
-            out,
-            at,
-        ),
+        } => bench_bus::read(device, register, room, page),
+        Question::VisitRead { record, room } => bench_visit::read(front(bytes, record), room, page),
         Question::Day {
             one,
             two,
             readings,
             room,
-        } => day(one, two, readings, room, bytes, out, at),
+        } => day(one, two, readings, room, bytes, page),
     }
 }
 
 // The words of two blocks, which are laid one after the other.
-fn cal(one: usize, two: usize, bytes: &[u8], out: &mut [u8], at: usize) -> usize
-    ensures { (out.new, result) ≡ (out.old, at) ▹ text.cal one two bytes.now }
+fn cal(one: usize, two: usize, bytes: &[u8], page: &mut Page)
+    ensures { page.new ≡ page.old ▹ text.cal one two bytes.now }
 {
-    bench_reading::cal(front(bytes, one), front(rest(bytes, one), two), out, at)
+    bench_reading::cal(front(bytes, one), front(rest(bytes, one), two), page);
 }
 
 // A day of readings, which are laid after the two blocks, with a lent list of so many answers.
 #[tactic(auto, unfolding(crate::specs::Questions::day))]
-fn day(
-    one: usize,
-    two: usize,
-    readings: usize,
-    room: usize,
-    bytes: &[u8],
-    out: &mut [u8],
-    at: usize,
-) -> usize
-    ensures { (out.new, result) ≡ (out.old, at) ▹ text.day one two readings room bytes.now }
+fn day(one: usize, two: usize, readings: usize, room: usize, bytes: &[u8], page: &mut Page)
+    ensures { page.new ≡ page.old ▹ text.day one two readings room bytes.now }
 {
     let after = rest(bytes, one);
     bench_day::day(
@@ -93,22 +79,21 @@ fn day(
         front(after, two),
         front(rest(after, two), readings),
         room,
-        out,
-        at,
-    )
+        page,
+    );
 }
 
 // What is shown of a reading of a kind of part.
 #[tactic(auto, unfolding(crate::specs::Questions::reading))]
-fn reading(kind: Kind, shown: Shown, sent: Sent, bytes: &[u8], out: &mut [u8], at: usize) -> usize
-    ensures { (out.new, result) ≡ (out.old, at) ▹ text.reading kind shown sent bytes.now }
+fn reading(kind: Kind, shown: Shown, sent: Sent, bytes: &[u8], page: &mut Page)
+    ensures { page.new ≡ page.old ▹ text.reading kind shown sent bytes.now }
 {
     let answer = compensate(kind, sent.first, bytes);
     match shown {
-        Shown::Comp => bench_reading::comp(answer, out, at),
-        Shown::Point => bench_rooms::point(rooms::make_point(answer), out, at),
-        Shown::Cells => bench_rooms::cells(rooms::make_cells(answer), out, at),
-        Shown::Rooms => bench_rooms::verdicts(compare(kind, answer, sent, bytes), out, at),
+        Shown::Comp => bench_reading::comp(answer, page),
+        Shown::Point => bench_rooms::point(rooms::make_point(answer), page),
+        Shown::Cells => bench_rooms::cells(rooms::make_cells(answer), page),
+        Shown::Rooms => bench_rooms::verdicts(compare(kind, answer, sent, bytes), page),
     }
 }
 
