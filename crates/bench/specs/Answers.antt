@@ -2,7 +2,8 @@
 use Rattle.std.specs.Prelude.{ℕ, List, replicate}
 use Rattle.machine.specs.declared.Machine.{Machine}
 use Rattle.machine.specs.Counts.{tallied}
-use Rattle.bench_page.specs.Page.{Page, ◌▹◌}
+use Rattle.bench_page.specs.declared.Page.{Page}
+use Rattle.bench_page.specs.Page.{◌▹◌}
 use Rattle.bench_command.specs.declared.Asked.{Asked}
 use Rattle.bench_command.specs.declared.Asked.TheVariants as asks
 use Rattle.bench_command.specs.Commands.{asked}

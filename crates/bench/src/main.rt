@@ -4,7 +4,7 @@
 mod lines; // what a line is answered
 
 use bench_bytes::{front, rest};
-use bench_machine::Answered;
+use bench_page::Page;
 use kinds::Kind;
 use std::io;
 use std::io::{Print, Read};
@@ -66,7 +66,12 @@ fn find(mut kept: Bench, block: &[u8], line: &mut [u8]) -> Bench {
             return kept;
         }
     }
-    kept.held = bench_page::write_text(rest(front(block, end), kept.start), line, kept.held);
+    let mut page = Page {
+        out: line,
+        at: kept.held,
+    };
+    page.write_text(rest(front(block, end), kept.start));
+    kept.held = page.at;
     kept
 }
 
@@ -157,14 +162,6 @@ fn finish(rt: &HostRuntime, kept: Bench, out: &[u8]) -> io::Result<()> {
     }
 }
 
-// The fresh machine of a BME280 and an empty page.
-fn start() -> Answered {
-    Answered {
-        machine: machine_start::fresh(Kind::Bme280),
-        at: 0,
-    }
-}
-
 // Nothing is read yet.
 fn nothing() -> Bench {
     Bench {
@@ -183,12 +180,13 @@ fn nothing() -> Bench {
 // Answers the lines of the input to its end, or until a write fails.
 // A proved loop has to end, so the turns are of a number that no run uses up.
 fn serve(rt: &HostRuntime, block: &mut [u8], line: &mut [u8], out: &mut [u8]) -> io::Result<()> {
-    let mut answered = start();
+    let mut machine = machine_start::fresh(Kind::Bme280);
     let mut kept = nothing();
     for _ in 0..u64::MAX {
         kept = go_on(rt, kept, block, line, out)?;
-        answered = lines::answer(text(kept, block, line), answered.machine, out, kept.at);
-        kept.at = answered.at;
+        let mut page = Page { out, at: kept.at };
+        machine = lines::answer(text(kept, block, line), machine, &mut page);
+        kept.at = page.at;
         if kept.last {
             break;
         }
