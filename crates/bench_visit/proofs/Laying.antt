@@ -20,7 +20,7 @@ use Rattle.bench_visit.proofs.Words.{no_more, next}
 eight : (s : Step) → length (words s) ≡ 8
 unfolding words
 eight Open = refl
-eight (Slot time t p h) = refl
+eight (Slot s) = refl
 eight Close = refl
 eight Stray = refl
 

@@ -1,12 +1,10 @@
 -- The steps among the words of a line, laid in a list: each word is one, and where one is none, or has no room, there are no steps.
-use Rattle.std.specs.Prelude.{ℕ, ◌+◌, ◌/◌, ◌≤◌, Bool, true, false, cond, List, [], ◌∷◌, ◌++◌, ◌≡◌, eqb, ltb, length, take}
+use Rattle.std.specs.Prelude.{ℕ, ◌+◌, ◌/◌, ◌≤◌, Bool, true, false, cond, List, [], ◌∷◌, ◌++◌, ◌≡◌, eqb, ltb, length, take, Option, Some, None}
 use Rattle.visit.specs.declared.Step.{Step}
 use Rattle.visit.specs.declared.Step.TheVariants.{Open, Slot, Close, Stray}
 use Rattle.visit.specs.Words.{words_each, words}
 use Rattle.visit_step.specs.Places as places
 use Rattle.bench_step.specs.Reading.{step}
-use Rattle.bench_visit.specs.declared.steps.Taken.{Taken}
-use Rattle.bench_visit.specs.declared.steps.Taken.TheVariants as taken
 
 -- ---- the words of a text, parted at each space: two spaces in a row, or one at either end, make a word of no characters
 
@@ -27,7 +25,7 @@ following (space ∷ rest) = parted rest
 
 abbrev pub is_stray : Step → Bool
 is_stray Open = false
-is_stray (Slot time t p h) = false
+is_stray (Slot s) = false
 is_stray Close = false
 is_stray Stray = true
 
@@ -49,14 +47,14 @@ unfoldable pub placed : Step → ℕ → List ℕ → Bool × List ℕ
 placed s k list = cond (is_stray s) (false, list) (ltb k (length list / words_each), places.laid s k list)
 
 -- how much of a list is laid
-abbrev pub front : Taken → List ℕ → Flat
-front (taken.Words n) list = flat (take n list)
-front taken.None list = none
+abbrev pub front : Option ℕ → List ℕ → Flat
+front (Some n) list = flat (take n list)
+front None list = none
 
-abbrev pub count : Taken → ℕ
-count (taken.Words n) = n
-count taken.None = 0
+abbrev pub count : Option ℕ → ℕ
+count (Some n) = n
+count None = 0
 
-pub record Lays (r : Taken) (list : List ℕ) (all : Flat) : Type 0 where
+pub record Lays (r : Option ℕ) (list : List ℕ) (all : Flat) : Type 0 where
   pub same : front r list ≡ all
   pub within : count r ≤ length list

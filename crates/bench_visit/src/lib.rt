@@ -12,9 +12,7 @@ ghost use Rattle.bench_visit.specs.Line as Line-of;
 ghost use Rattle.bench_visit.specs.Visits as text;
 
 use bench_numbers::Reason;
-use steps::Taken;
-use visit_read::Read;
-use visit_write::Written;
+use visit::RecordError;
 
 mod steps;
 
@@ -25,6 +23,7 @@ pub const LENT_WORDS: usize = 2048;
 pub const LINE_WORDS: usize = 16384;
 
 // A lent list of the longest length, all zeros.
+#[tactic(auto, unfolding(crate::specs::Visits::zeros))]
 fn lent_list() -> [u32; LENT_WORDS]
     ensures { (result ≡ text.zeros) × (2048 ≡ size result) }
 {
@@ -39,6 +38,7 @@ fn line_list() -> [u32; LINE_WORDS]
 }
 
 // Writes the steps of a record, read into a list of so many, or why it is refused.
+#[tactic(auto, unfolding(crate::specs::Visits::lent_steps))]
 pub fn read(bytes: &[u8], room: usize, out: &mut [u8], at: usize) -> usize
     ensures { (out.new, result) ≡ (out.old, at) ▹ text.read (read_into bytes.now (text.lent_steps room)) }
 {
@@ -49,13 +49,16 @@ pub fn read(bytes: &[u8], room: usize, out: &mut [u8], at: usize) -> usize
 }
 
 // Writes what reading answers, with the steps of the list.
-fn write_read(read: Read, list: &[u32], out: &mut [u8], at: usize) -> usize
+#[tactic(auto, unfolding(crate::specs::Visits::read))]
+fn write_read(read: Result<usize, RecordError>, list: &[u32], out: &mut [u8], at: usize) -> usize
     ensures { (out.new, result) ≡ (out.old, at) ▹ text.read (read_answer read, list.now) }
 {
     match read {
-        Read::Steps(n) => write_listed(paper::DONE, n, list, out, at),
-        Read::Refused(number) => bench_page::write_decimal(number as u64, out, at),
-        Read::RefusedAt { number, offset } => write_listed(number, offset, list, out, at),
+        Ok(n) => write_listed(paper::DONE, n, list, out, at),
+        Err(RecordError::Whole(refusal)) => {
+            bench_page::write_decimal(refusal.number as u64, out, at)
+        }
+        Err(RecordError::At(fault)) => write_listed(fault.number, fault.place, list, out, at),
     }
 }
 
@@ -71,6 +74,7 @@ fn write_listed(number: u8, n: usize, list: &[u32], out: &mut [u8], at: usize) -
 }
 
 // Answers a line whose words after a place are steps: writes their record in a buffer of so many bytes, or why it is refused, and a newline.
+#[tactic(auto, unfolding(crate::specs::Visits::write))]
 pub fn write(line: &[u8], from: usize, room: usize, out: &mut [u8], at: usize) -> usize
     ensures { (out.new, result) ≡ text.write line.now from room (out.old, at) }
 {
@@ -80,13 +84,13 @@ pub fn write(line: &[u8], from: usize, room: usize, out: &mut [u8], at: usize) -
 }
 
 // Answers a line by the words of the list that its steps fill.
-fn write_taken(taken: Taken, list: &[u32], room: usize, out: &mut [u8], at: usize) -> usize
+fn write_taken(taken: Option<usize>, list: &[u32], room: usize, out: &mut [u8], at: usize) -> usize
     requires { Line-of.count taken ≤ size list.now }
     ensures { (out.new, result) ≡ text.write_laid (Line-of.front taken list.now) room (out.old, at) }
 {
     match taken {
-        Taken::Words(n) => write_record(&list[..n], room, out, at),
-        Taken::None => bench_phrases::refuse(Reason::NotANumber, out, at),
+        Some(n) => write_record(&list[..n], room, out, at),
+        None => bench_phrases::refuse(Reason::NotANumber, out, at),
     }
 }
 
@@ -101,7 +105,7 @@ fn write_record(list: &[u32], room: usize, out: &mut [u8], at: usize) -> usize
 }
 
 // Writes what writing answers, the buffer, and a newline.
-fn write_lent(written: Written, lent: &[u8], out: &mut [u8], at: usize) -> usize
+fn write_lent(written: Result<usize, RecordError>, lent: &[u8], out: &mut [u8], at: usize) -> usize
     ensures { (out.new, result) ≡ ended ((out.old, at) ▹ text.written (written_answer written, lent.now)) }
 {
     let next = write_written(written, out, at);
@@ -110,13 +114,15 @@ fn write_lent(written: Written, lent: &[u8], out: &mut [u8], at: usize) -> usize
 }
 
 // Writes what writing answers.
-fn write_written(written: Written, out: &mut [u8], at: usize) -> usize
+fn write_written(written: Result<usize, RecordError>, out: &mut [u8], at: usize) -> usize
     ensures { (out.new, result) ≡ (out.old, at) ▹ text.answered (written_answer written) }
 {
     match written {
-        Written::Bytes(n) => write_counted(paper::DONE, n, out, at),
-        Written::Refused(number) => bench_page::write_decimal(number as u64, out, at),
-        Written::RefusedAt { number, place } => write_counted(number, place, out, at),
+        Ok(n) => write_counted(paper::DONE, n, out, at),
+        Err(RecordError::Whole(refusal)) => {
+            bench_page::write_decimal(refusal.number as u64, out, at)
+        }
+        Err(RecordError::At(fault)) => write_counted(fault.number, fault.place, out, at),
     }
 }
 

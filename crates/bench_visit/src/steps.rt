@@ -6,17 +6,10 @@ ghost use Rattle.bench_visit.specs.Shown as text;
 
 use visit::Step;
 
-// How many words of a list the steps of a line fill.
-// None where a word of the line is no step.
-#[derive(Drop)]
-pub enum Taken {
-    Words(usize),
-    None,
-}
-
 // Lays the steps of a line in a list: those of the words that follow a place where a word ends.
-// A step that has no room in the list is refused as a word that is none.
-pub fn lay_all(line: &[u8], from: usize, list: &mut [u32]) -> Taken
+// Gives how many words of the list they fill, and none where a word is no step or its step has no room in the list.
+// Each turn of the loop goes on where a word ended, so that no range counts its places.
+pub fn lay_all(line: &[u8], from: usize, list: &mut [u32]) -> Option<usize>
     ensures { Line-of.Lays result list.new (Line-of.laid (size list.old / 8) 0 [] (Line-of.following (drop from line.now))) }
 {
     let mut at = from;
@@ -24,20 +17,21 @@ pub fn lay_all(line: &[u8], from: usize, list: &mut [u32]) -> Taken
     while at < line.len() {
         let word = bench_step::up_to(bench_bytes::rest(line, at + 1), b' ');
         if !lay(bench_step::read(word), k, list) {
-            return Taken::None;
+            return None;
         }
         at += 1 + word.len();
         k += 1;
     }
-    Taken::Words(k * visit::WORDS)
+    Some(k * visit::WORDS)
 }
 
 // Lays a step at a place of a list, and says whether it did.
 // It does not where the step is a stray one, or the list has no such place.
+#[tactic(auto, unfolding(crate::specs::Line::placed))]
 fn lay(step: Step, k: usize, list: &mut [u32]) -> bool
     ensures { (result, list.new) ≡ Line-of.placed step k list.old }
 {
-    if is_stray(step) {
+    if matches!(step, Step::Stray) {
         return false;
     }
     let fits = k < list.len() / visit::WORDS;
@@ -45,27 +39,13 @@ fn lay(step: Step, k: usize, list: &mut [u32]) -> bool
     fits
 }
 
-// Whether a step is a stray one.
-fn is_stray(step: Step) -> bool
-    ensures { result ≡ Line-of.is_stray step }
-{
-    match step {
-        Step::Open => false,
-        Step::Slot { .. } => false,
-        Step::Close => false,
-        Step::Stray => true,
-    }
-}
-
 // Writes the first n steps of a list, with single spaces between them.
 pub fn write(list: &[u32], n: usize, out: &mut [u8], at: usize) -> usize
     ensures { (out.new, result) ≡ (out.old, at) ▹ text.steps n 0 list.now }
 {
     let mut next = at;
-    let mut k = 0;
-    while k < n {
+    for k in 0..n {
         next = write_one(list, k, out, next);
-        k += 1;
     }
     next
 }

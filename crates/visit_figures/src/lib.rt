@@ -74,7 +74,7 @@ pub fn write_percent(word: u32, out: &mut [u8], at: usize) -> usize
 pub fn write_missing(number: u32, out: &mut [u8], at: usize) -> usize
     ensures { (out.new, result) ≡ (out.old, at) ▹ text.missing number }
 {
-    let next = bench_row::fill(b"missing #", &[number as u64], out, at);
+    let next = bench_row::fill(b"missing #", &[u64::from(number)], out, at);
     write_reason(number, out, next)
 }
 
@@ -100,10 +100,10 @@ fn write_degrees(word: u32, out: &mut [u8], at: usize) -> usize
     ensures { (out.new, result) ≡ (out.old, at) ▹ text.degrees word }
 {
     if word < NEGATIVE {
-        return write_hundredths(word as u64, out, at);
+        return write_hundredths(u64::from(word), out, at);
     }
     let next = bench_page::write_byte(b'-', out, at);
-    write_hundredths((0xFFFFFFFF - word + 1) as u64, out, next)
+    write_hundredths(u64::from(0xFFFFFFFF - word + 1), out, next)
 }
 
 // Writes an amount that counts parts of a unit: the whole units, and a point and the decimals of the rest where there is one.
@@ -112,7 +112,7 @@ fn write_amount(word: u32, unit: u32, out: &mut [u8], at: usize) -> usize
     requires { (0 < unit) × (unit < 65536) }
     ensures { (out.new, result) ≡ (out.old, at) ▹ text.amount word unit }
 {
-    let next = bench_page::write_decimal((word / unit) as u64, out, at);
+    let next = bench_page::write_decimal(u64::from(word / unit), out, at);
     if word % unit == 0 {
         return next;
     }

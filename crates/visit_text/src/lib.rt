@@ -58,7 +58,7 @@ fn write_date(time: u32, d: Moment, out: &mut [u8], at: usize) -> usize
     bench_row::fill(
         b" # (#-##-## ##:##:## UTC)\n",
         &[
-            time as u64,
+            u64::from(time),
             d.year,
             d.month / 10,
             d.month % 10,
@@ -159,7 +159,7 @@ fn write_name(level: u8, name: &[u8], out: &mut [u8], at: usize) -> usize
     ensures { (out.new, result) ≡ (out.old, at) ▹ text.named level name.now }
 {
     let next = bench_page::write_text(
-        bench_bytes::front(b"        ", (level as usize) * 2),
+        bench_bytes::front(b"        ", usize::from(level) * 2),
         out,
         at,
     );

@@ -42,10 +42,10 @@ pub fn time(text: &[u8]) -> Typed
     ensures { result ≡ typed.time text.now }
 {
     let n = number(text).ok_or(Fault::Unwritten)?;
-    if n > 0xFFFFFFFF {
-        return Err(Fault::Outside);
+    match u32::try_from(n) {
+        Ok(seconds) => Ok(Ok(seconds)),
+        Err(_) => Err(Fault::Outside),
     }
-    Ok(Ok(n as u32))
 }
 
 // A temperature: a minus or none, and degrees with at most two decimals.

@@ -28,11 +28,11 @@ module _ (n k : ℕ) (list : List ℕ) (p whole : List ℕ × ℕ) where
       let d : n - k ≡ 0 = omega arith in
       rw d at f
 
+pub loop-k-init : goal.loop-k-init
+loop-k-init c = none_yet _ _ _
+
 pub loop-k-preserved : goal.loop-k-preserved
-loop-k-preserved c = record {
-  within = omega arith;
-  same = one_more _ _ _ _ _ _ c.loop-k-test.true c.write_one-next.ensures c.loop-k.invariant.same;
-}
+loop-k-preserved c = one_more _ _ _ _ _ _ c.loop-k-test.true c.write_one-next.ensures c.loop-k.invariant
 
 pub returns : goal.returns
-returns c = all _ _ _ _ _ c.loop-k-test.false c.loop-k.invariant.same
+returns c = all _ _ _ _ _ c.loop-k-test.false c.loop-k.invariant

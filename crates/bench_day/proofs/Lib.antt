@@ -1,0 +1,2 @@
+-- The rows of a list.
+pub mod Rows
