@@ -11,6 +11,7 @@ pub const MOST_BYTES: usize = 2048;
 
 // Answers a line: writes the answer and a newline on the page from a place on, and gives the machine afterwards.
 // An empty line is passed over.
+#[tactic(auto, unfolding(crate::specs::Answers::answered, crate::specs::Answers::zeros))]
 pub fn answer(line: &[u8], m: Machine, out: &mut [u8], at: usize) -> Answered
     ensures { (result.machine, (out.new, result.at)) ≡ answers.answered line.now m (out.old, at) }
 {
@@ -31,19 +32,16 @@ fn answer_asked(
     ensures { (result.machine, (out.new, result.at)) ≡ answers.asked_answered asked line.now bytes.now m (out.old, at) }
 {
     match asked {
-        Asked::Nothing => return stay(m, at),
-        Asked::Refused(reason) => return stay(m, bench_phrases::refuse(reason, out, at)),
-        Asked::Question(question) => return stay(
+        Asked::Nothing => stay(m, at),
+        Asked::Refused(reason) => stay(m, bench_phrases::refuse(reason, out, at)),
+        Asked::Question(question) => stay(m, bench_question::reply(question, bytes, out, at)),
+        Asked::VisitWrite { room, steps } => stay(
             m,
-            bench_question::reply(question, bytes, out, at),
+            bench_visit::write(line, steps, room, out, at),
         ),
-        Asked::VisitWrite(room, from) => return stay(
-            m,
-            bench_visit::write(line, from, room, out, at),
-        ),
-        Asked::Fresh(kind, n) => return bench_machine::fresh(kind, n, out, at),
-        Asked::Event(event) => return bench_machine::event(m, event, out, at),
-        Asked::Ledger => return stay(m, bench_machine::ledger(m, out, at)),
+        Asked::Fresh { kind, begun } => bench_machine::fresh(kind, begun, out, at),
+        Asked::Event(event) => bench_machine::event(m, event, out, at),
+        Asked::Ledger => stay(m, bench_machine::ledger(m, out, at)),
     }
 }
 

@@ -1,8 +1,6 @@
 // The bench: reads commands from standard input, one a line, and writes their answers to standard output.
 #![tactic(auto)]
 
-ghost use Rattle.std.specs.Prelude.{◌<◌};
-
 mod lines; // what a line is answered
 
 use bench_bytes::{front, rest};
@@ -25,10 +23,17 @@ struct Bench {
     // Whether the line is whole, and whether it is the last.
     whole: bool,
     last: bool,
-    // How many bytes of the page of answers are filled, whether all before them were written out, and whether nobody reads them any more.
+    // How many bytes of the page of answers are filled, and what became of all before them.
     at: usize,
-    written: bool,
-    closed: bool,
+    output: Output,
+}
+
+// What became of the answers: all were written out, a write failed, or nobody reads them any more.
+#[derive(Clone, Copy, Debug, PartialEq, Eq)]
+enum Output {
+    Written,
+    Failed,
+    Closed,
 }
 
 // One byte more than the longest line is held, so that a longer line is seen to be too long.
@@ -39,14 +44,10 @@ const FULL: usize = 54000;
 
 // The place of the first newline from a place on, or where there is none the block's end.
 fn newline(block: &[u8], from: usize) -> usize {
-    let mut i = from;
-    while i < block.len() {
-        if block[i] == b'\n' {
-            return i;
-        }
-        i += 1;
+    match rest(block, from).iter().position(|&byte| byte == b'\n') {
+        Some(i) => from + i,
+        None => from.max(block.len()),
     }
-    i
 }
 
 // Finds the next line of the block, or what stands after its last, once a whole line is done with.
@@ -72,10 +73,12 @@ fn find(mut kept: Bench, block: &[u8], line: &mut [u8]) -> Bench {
 // Writes the page out, and begins it anew.
 // Once a write has failed nothing more is written, so that no answer is missing between two others.
 fn write_out(output: io::Stdout, mut kept: Bench, out: &[u8]) -> Bench {
-    if kept.written {
+    if kept.output == Output::Written {
         if let Err(error) = output.write_all(front(out, kept.at)) {
-            kept.written = false;
-            kept.closed = matches!(error.kind(), io::ErrorKind::BrokenPipe);
+            kept.output = match error.kind() {
+                io::ErrorKind::BrokenPipe => Output::Closed,
+                _ => Output::Failed,
+            };
         }
     }
     kept.at = 0;
@@ -97,12 +100,14 @@ fn read_block(rt: &HostRuntime, block: &mut [u8]) -> io::Result<usize> {
 
 // The block has so many bytes, of which none is taken.
 // Where it has none, what is held is the last line.
-fn begin_block(mut kept: Bench, size: usize) -> Bench {
-    kept.next = 0;
-    kept.size = size;
-    kept.last = size == 0;
-    kept.whole = size == 0;
-    kept
+fn begin_block(kept: Bench, size: usize) -> Bench {
+    Bench {
+        next: 0,
+        size,
+        last: size == 0,
+        whole: size == 0,
+        ..kept
+    }
 }
 
 // Goes on to the next line, with room for its answer on the page, or to the next block.
@@ -122,7 +127,7 @@ fn go_on(
     if next.whole {
         return Ok(next);
     }
-    if next.written {
+    if next.output == Output::Written {
         return Ok(begin_block(next, read_block(rt, block)?));
     }
     Ok(begin_block(next, 0))
@@ -143,16 +148,13 @@ fn text<'a>(kept: Bench, block: &'a [u8], line: &'a [u8]) -> &'a [u8] {
 // Writes the last answers out.
 // If a write failed, now or before, standard error says so, unless nobody reads the answers any more.
 fn finish(rt: &HostRuntime, kept: Bench, out: &[u8]) -> io::Result<()> {
-    let done = write_out(rt.stdout(), kept, out);
-    if done.closed {
-        return Err(io::Error::from(io::ErrorKind::BrokenPipe));
-    }
-    if !done.written {
-        return rt
+    match write_out(rt.stdout(), kept, out).output {
+        Output::Written => Ok(()),
+        Output::Failed => rt
             .stderr()
-            .write_all(b"bench: the answers could not be written\n");
+            .write_all(b"bench: the answers could not be written\n"),
+        Output::Closed => Err(io::Error::from(io::ErrorKind::BrokenPipe)),
     }
-    Ok(())
 }
 
 // The fresh machine of a BME280 and an empty page.
@@ -174,30 +176,22 @@ fn nothing() -> Bench {
         whole: false,
         last: false,
         at: 0,
-        written: true,
-        closed: false,
+        output: Output::Written,
     }
 }
 
-// The turns that are left after one: none after the last.
-fn left(turns: u64, last: bool) -> u64
-    requires { 0 < turns }
-    ensures { result < turns }
-{
-    if last { 0 } else { turns - 1 }
-}
-
 // Answers the lines of the input to its end, or until a write fails.
-// A proved loop has to end, so the turns are counted down from a number that no run uses up.
+// A proved loop has to end, so the turns are of a number that no run uses up.
 fn serve(rt: &HostRuntime, block: &mut [u8], line: &mut [u8], out: &mut [u8]) -> io::Result<()> {
     let mut answered = start();
     let mut kept = nothing();
-    let mut turns = u64::MAX;
-    while turns > 0 {
+    for _ in 0..u64::MAX {
         kept = go_on(rt, kept, block, line, out)?;
         answered = lines::answer(text(kept, block, line), answered.machine, out, kept.at);
         kept.at = answered.at;
-        turns = left(turns, kept.last);
+        if kept.last {
+            break;
+        }
     }
     finish(rt, kept, out)
 }

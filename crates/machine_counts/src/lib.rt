@@ -29,6 +29,7 @@ pub fn count_begun(yes: bool, l: Ledger) -> Ledger
 }
 
 // One that stood is delivered.
+// This and the next differ in the count that they raise: one function of both would have to be told which.
 pub fn count_delivered(yes: bool, l: Ledger) -> Ledger
     ensures { result ≡ counts.delivered_if yes l }
 {
