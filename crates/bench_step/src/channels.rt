@@ -32,13 +32,11 @@ pub fn temperature(text: &[u8]) -> Option<Answer>
 fn missing(n: usize) -> Option<Answer>
     ensures { result ≡ reading.missing n }
 {
-    if n == 0 {
-        return Some(Err(Absent { number: 1 }));
+    match u32::try_from(n) {
+        Ok(0) => Some(Err(Absent { number: 1 })),
+        Ok(number) => Some(Err(Absent { number })),
+        Err(_) => None,
     }
-    if n <= 0xFFFFFFFF {
-        return Some(Err(Absent { number: n as u32 }));
-    }
-    None
 }
 
 // A number of at most so much.

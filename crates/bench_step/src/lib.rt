@@ -66,7 +66,7 @@ pub fn write(step: Step, out: &mut [u8], at: usize) -> usize
 fn write_slot(slot: Slot, out: &mut [u8], at: usize) -> usize
     ensures { (out.new, result) ≡ (out.old, at) ▹ text.slot slot }
 {
-    let a = bench_page::write_decimal(slot.time as u64, out, at);
+    let a = bench_page::write_decimal(u64::from(slot.time), out, at);
     let b = write_temperature(slot.temperature, out, a);
     let c = write_amount(slot.pressure, out, b);
     write_amount(slot.humidity, out, c)
@@ -77,8 +77,8 @@ fn write_amount(answer: Answer, out: &mut [u8], at: usize) -> usize
     ensures { (out.new, result) ≡ (out.old, at) ▹ text.amount answer }
 {
     match answer {
-        Ok(value) => bench_row::fill(b":#", &[value as u64], out, at),
-        Err(absent) => bench_row::fill(b":!#", &[absent.number as u64], out, at),
+        Ok(value) => bench_row::fill(b":#", &[u64::from(value)], out, at),
+        Err(absent) => bench_row::fill(b":!#", &[u64::from(absent.number)], out, at),
     }
 }
 
@@ -97,7 +97,7 @@ fn write_signed(word: u32, out: &mut [u8], at: usize) -> usize
     ensures { (out.new, result) ≡ (out.old, at) ▹ text.signed word }
 {
     if word < 0x80000000 {
-        return bench_row::fill(b":#", &[word as u64], out, at);
+        return bench_row::fill(b":#", &[u64::from(word)], out, at);
     }
-    bench_row::fill(b":-#", &[0x100000000 - word as u64], out, at)
+    bench_row::fill(b":-#", &[0x100000000 - u64::from(word)], out, at)
 }

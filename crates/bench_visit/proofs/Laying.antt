@@ -8,13 +8,14 @@ use mathlib.Core.Path.{◌≡◌, refl, sym, ap, ◌∙◌}
 use lib.Dec.{ltb}
 use lib.ListN.{length, take, drop, length-append}
 use lib.Seq.{length-take-le, take-append_seam}
+use Rattle.std.specs.Prelude.{Some, None}
 use Rattle.laws.specs.Tests.{never}
 use Rattle.visit.specs.declared.Step.{Step}
 use Rattle.visit.specs.declared.Step.TheVariants.{Open, Slot, Close, Stray}
 use Rattle.visit.specs.Words.{words}
 use Rattle.visit_step.specs.Places as places
 use Rattle.bench_step.specs.Reading.{before, step}
-use Rattle.bench_visit.specs.Line.{is_stray, following, Flat, flat, none, laid, placed}
+use Rattle.bench_visit.specs.Line.{is_stray, following, Flat, laid, placed}
 use Rattle.bench_visit.proofs.Words.{no_more, next}
 
 eight : (s : Step) → length (words s) ≡ 8
@@ -53,11 +54,11 @@ was-laid false t r l list more e f =
     record { own = refl; fits = sym (ap (λ (p : Bool × List ℕ). p.0) e) ∙ f; after = ap (λ (p : Bool × List ℕ). p.1) e }
 
 module _ (k : ℕ) (list l word : List ℕ) (r : Bool) (e : (r, l) ≡ placed (step word) k list) where
-  refused : (held : List ℕ) (others : List (List ℕ)) → r ≡ false → laid (length list / 8) k held (word ∷ others) ≡ none
+  refused : (held : List ℕ) (others : List (List ℕ)) → r ≡ false → laid (length list / 8) k held (word ∷ others) ≡ None
   unfolding laid placed
   refused held others f =
       not-laid (is_stray (step word)) (ltb k (length list / 8)) r l list (places.laid (step word) k list)
-      (laid (length list / 8) (k + 1) (held ++ words (step word)) others) none e f
+      (laid (length list / 8) (k + 1) (held ++ words (step word)) others) None e f
 
   was : r ≡ true → Was (is_stray (step word)) (ltb k (length list / 8)) l (places.laid (step word) k list)
   unfolding placed
@@ -79,7 +80,7 @@ module _ (k : ℕ) (list l word : List ℕ) (r : Bool) (e : (r, l) ≡ placed (s
   module _
       (line list₀ : List ℕ) (at : ℕ) (n : length list ≡ length list₀) (h : at < length line) (w : word ≡ before 32 (drop (at + 1) line)) (whole : Flat)
       (f : laid (length list₀ / 8) k (take (k * 8) list) (following (drop at line)) ≡ whole) where
-    pub stopped : r ≡ false → none ≡ whole
+    pub stopped : r ≡ false → None ≡ whole
     stopped g = sym (refused (take (k * 8) list) (following (drop (at + (1 + length word)) line)) g) ∙ rw (← n, next line at h word w) at f
 
     pub onward :
@@ -90,6 +91,6 @@ module _ (k : ℕ) (list l word : List ℕ) (r : Bool) (e : (r, l) ≡ placed (s
 
 pub ended :
     (line list : List ℕ) (room k at : ℕ) (whole : Flat) → length line ≤ at → laid room k (take (k * 8) list) (following (drop at line)) ≡ whole
-    → flat (take (k * 8) list) ≡ whole
+    → Some (take (k * 8) list) ≡ whole
 unfolding laid
 ended line list room k at whole h f = rw (no_more line at h) at f

@@ -30,15 +30,14 @@ is_stray Close = false
 is_stray Stray = true
 
 -- the words of all steps, or none where there is no list of them
-pub data Flat : Type 0 where
-  flat : List ℕ → Flat
-  none : Flat
+abbrev pub Flat : Type 0
+Flat = Option (List ℕ)
 
 -- from the k-th step on, after the words of those before it, with room for so many in all; a line of 4,096 bytes has no more than the bench has room for
 unfoldable pub laid : ℕ → ℕ → List ℕ → List (List ℕ) → Flat
-laid room k held [] = flat held
+laid room k held [] = Some held
 laid room k held (word ∷ more) =
-    cond (is_stray (step word)) none (cond (ltb k room) (laid room (k + 1) (held ++ words (step word)) more) none)
+    cond (is_stray (step word)) None (cond (ltb k room) (laid room (k + 1) (held ++ words (step word)) more) None)
 
 -- ---- in a lent list
 
@@ -48,8 +47,8 @@ placed s k list = cond (is_stray s) (false, list) (ltb k (length list / words_ea
 
 -- how much of a list is laid
 abbrev pub front : Option ℕ → List ℕ → Flat
-front (Some n) list = flat (take n list)
-front None list = none
+front (Some n) list = Some (take n list)
+front None list = None
 
 abbrev pub count : Option ℕ → ℕ
 count (Some n) = n

@@ -1,5 +1,5 @@
 -- visit read: `0 n=STEPS steps=..`, or `N at=OFFSET`, and 2 and 9 alone. visit write: `0 n=BYTES buf=..`, or `N at=PLACE buf=..`, `2 buf=..`, `9 buf=..`.
-use Rattle.std.specs.Prelude.{ℕ, ◌*◌, cond, List, [], ◌∷◌, ◌++◌, eqb, replicate, take, drop}
+use Rattle.std.specs.Prelude.{ℕ, ◌*◌, cond, List, [], ◌∷◌, ◌++◌, eqb, replicate, take, drop, Some, None}
 use Rattle.paper.specs.Numbers.{done}
 use Rattle.paper.specs.Answers.{Answer}
 use Rattle.visit.specs.Words.{words_each}
@@ -10,7 +10,7 @@ use Rattle.bench_row.specs.Row.{filled, buffer}
 use Rattle.bench_numbers.specs.declared.Reason.TheVariants.{NotANumber}
 use Rattle.bench_phrases.specs.Phrases.{refused, ended}
 use Rattle.bench_lent.specs.Lent.{within, lent_of}
-use Rattle.bench_visit.specs.Line.{Flat, flat, none, following, laid}
+use Rattle.bench_visit.specs.Line.{Flat, following, laid}
 use Rattle.bench_visit.specs.Shown.{steps}
 
 -- a number with the offset or the place that it refuses at
@@ -54,8 +54,8 @@ unfoldable pub written : Answer × List ℕ → List ℕ
 written o = answered o.0 ++ buffer o.1
 
 abbrev pub write_laid : Flat → ℕ → Page → Page
-write_laid (flat words) room page = ended (page ▹ written (write_into words (lent_of room)))
-write_laid none room page = refused NotANumber page
+write_laid (Some words) room page = ended (page ▹ written (write_into words (lent_of room)))
+write_laid None room page = refused NotANumber page
 
 -- the steps are the words of the line that follow a place; the list has room for 2,048
 unfoldable pub write : List ℕ → ℕ → ℕ → Page → Page

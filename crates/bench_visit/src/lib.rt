@@ -56,7 +56,7 @@ fn write_read(read: Result<usize, RecordError>, list: &[u32], out: &mut [u8], at
     match read {
         Ok(n) => write_listed(paper::DONE, n, list, out, at),
         Err(RecordError::Whole(refusal)) => {
-            bench_page::write_decimal(refusal.number as u64, out, at)
+            bench_page::write_decimal(u64::from(refusal.number), out, at)
         }
         Err(RecordError::At(fault)) => write_listed(fault.number, fault.place, list, out, at),
     }
@@ -67,10 +67,10 @@ fn write_listed(number: u8, n: usize, list: &[u32], out: &mut [u8], at: usize) -
     ensures { (out.new, result) ≡ (out.old, at) ▹ text.listed number n list.now }
 {
     if number == paper::DONE {
-        let next = bench_row::fill(b"# n=# steps=", &[number as u64, n as u64], out, at);
+        let next = bench_row::fill(b"# n=# steps=", &[u64::from(number), n as u64], out, at);
         return steps::write(list, n, out, next);
     }
-    bench_row::fill(b"# at=#", &[number as u64, n as u64], out, at)
+    bench_row::fill(b"# at=#", &[u64::from(number), n as u64], out, at)
 }
 
 // Answers a line whose words after a place are steps: writes their record in a buffer of so many bytes, or why it is refused, and a newline.
@@ -120,7 +120,7 @@ fn write_written(written: Result<usize, RecordError>, out: &mut [u8], at: usize)
     match written {
         Ok(n) => write_counted(paper::DONE, n, out, at),
         Err(RecordError::Whole(refusal)) => {
-            bench_page::write_decimal(refusal.number as u64, out, at)
+            bench_page::write_decimal(u64::from(refusal.number), out, at)
         }
         Err(RecordError::At(fault)) => write_counted(fault.number, fault.place, out, at),
     }
@@ -131,7 +131,7 @@ fn write_counted(number: u8, n: usize, out: &mut [u8], at: usize) -> usize
     ensures { (out.new, result) ≡ (out.old, at) ▹ text.counted number n }
 {
     if number == paper::DONE {
-        return bench_row::fill(b"# n=#", &[number as u64, n as u64], out, at);
+        return bench_row::fill(b"# n=#", &[u64::from(number), n as u64], out, at);
     }
-    bench_row::fill(b"# at=#", &[number as u64, n as u64], out, at)
+    bench_row::fill(b"# at=#", &[u64::from(number), n as u64], out, at)
 }

@@ -5,4 +5,4 @@ use Rattle.bench_visit.proofs.write_listed.Goals as goal
 
 pub returns-then-number-eq-DONE : goal.returns-then-number-eq-DONE
 returns-then-number-eq-DONE c =
-    rw (eq-eqb _ _ c.if-number-eq-DONE.true) (joined _ _ _ c.fill-next.ensures c.write.ensures)
+    rw (eq-eqb _ _ c.if-number-eq-DONE.true) (joined _ _ _ (rw c.from.ensures at c.fill-next.ensures) c.write.ensures)
