@@ -2,6 +2,7 @@
 #![tactic(auto)]
 
 ghost use Rattle.std.specs.Prelude.{◌≡◌, ◌+◌, ◌*◌, ◌<◌, ◌^◌};
+ghost use Rattle.visit_typed.specs.Same as texts;
 ghost use Rattle.visit_typed.specs.Typed as typed;
 
 mod amounts;
@@ -26,6 +27,13 @@ pub enum Fault {
 
 // What a text says: a value's word or that it is missing, or what is wrong with it.
 pub type Typed = Result<Answer, Fault>;
+
+// Whether two texts are the same: the library's == under the name that the page of promises gives it.
+pub fn same(a: &[u8], b: &[u8]) -> bool
+    ensures { result ≡ texts.same a.now b.now }
+{
+    a == b
+}
 
 // The number that a text stands for: one to ten digits, and nothing else.
 #[tactic(auto, unfolding(crate::specs::Typed::number))]
@@ -112,7 +120,7 @@ fn degrees(minus: bool, text: &[u8]) -> Typed
 fn has_unit(text: &[u8], a: Amount, unit: &[u8]) -> bool
     ensures { result ≡ typed.has_unit text.now a unit.now }
 {
-    rest(text, a.end) == unit
+    same(rest(text, a.end), unit)
 }
 
 // The missing answer of a text that says so.
