@@ -37,7 +37,7 @@ fn part(all: u64) -> Counts
 pub fn lay(temperature: u32, pressure: u32, humidity: u32) -> [u8; 8]
     ensures { result ≡ counted.laid temperature pressure humidity }
 {
-    // Written out: the three counts in one number, for `to_be_bytes`, would be no plainer.
+    // Written out: for `to_be_bytes` each count would first be cut to its bits and shifted to its place in one number.
     [
         (pressure / 4096 % 256) as u8,
         (pressure / 16 % 256) as u8,

@@ -105,7 +105,7 @@ pub fn pressure(words: PressureWords, fine: i32, count: u32) -> Num
 pub fn in_range(p: i64) -> ChannelAnswer
     ensures { result ≡ answered (passed (is_pressure p) no.pressure_outside p) }
 {
-    // `u32::try_from` takes nine instructions more, and real air comes this way.
+    // Two comparisons: with `u32::try_from` a day's reading takes 152 instructions, which misses the bar beside C (docs/SPEED.md).
     if p < 0 || p > 4294967295 {
         return Err(Missing {
             number: paper::PRESSURE_OUTSIDE,

@@ -24,7 +24,7 @@ fn is_unread(c: Conversion) -> bool
 }
 
 // A conversion is shown; the one that it replaces is overwritten, if unread.
-// Here and below the machine is changed in place: made anew from its fields it costs a cycle 23 instructions more.
+// Here and below two fields of the machine change in place, and the others stay where they are.
 #[tactic(auto, unfolding(machine::specs::Events::showing))]
 fn show(c: Conversion, m: Machine) -> Machine
     ensures { result ≡ ev.showing c m }

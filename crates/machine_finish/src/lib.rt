@@ -11,7 +11,7 @@ mod converting; // how a conversion finishes, and how the next one begins from s
 mod storing; // the bytes that a finish stores
 
 // The running conversion finishes with its three counts.
-// They stay apart, as the ledger's definitions name them one by one (`adds` and `number_in` of `Finish t p u`).
+// They stay apart: the event hands them over one by one, and nothing is said of the three together.
 pub fn finish(m: Machine, temperature: u32, pressure: u32, humidity: u32) -> Outcome
     ensures { result ≡ ev.finished m temperature pressure humidity }
 {

@@ -28,6 +28,7 @@ fn data_at(address: u8, m: Machine) -> u8
     if address < paper::FIRST_DATA || kinds::facts(m.device.kind).last < address {
         return 0;
     }
+    // The eight bytes are copied out first: indexed in the machine, the whole of it would go through memory.
     let bytes = m.shown.bytes;
     bytes[(address - paper::FIRST_DATA) as usize]
 }

@@ -1,2 +1,2 @@
--- The law that both walks cite.
+-- The law that the walk cites.
 pub mod Walks

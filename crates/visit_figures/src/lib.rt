@@ -17,7 +17,6 @@ pub const PERCENT: u32 = 1024;
 pub const DECIMALS: u32 = 10;
 
 // Each channel is its figure and its unit: one function that took the figure's writer as a closure would be no shorter.
-
 // Writes a temperature: hundredths of a degree, in two's complement.
 #[tactic(auto, using(bench_page::proofs::Laws::joined), unfolding(crate::specs::Figures::temperature))]
 pub fn write_temperature(word: u32, out: &mut [u8], at: usize) -> usize

@@ -77,6 +77,7 @@ fn take_lines(text: &[u8], steps: &mut [u32]) -> Result<usize, BadLine> {
         place: visit_place::start(),
         holds: Holds::Nothing,
     };
+    // The number is wanted once more after the last line, so it is counted beside the loop.
     let mut number: usize = 1;
     for line in text.split_inclusive(|byte| *byte == b'\n') {
         let line = line.strip_suffix(b"\n").unwrap_or(line);
@@ -86,13 +87,11 @@ fn take_lines(text: &[u8], steps: &mut [u32]) -> Result<usize, BadLine> {
         })?;
         number = number.saturating_add(1);
     }
-    match groups::end(&mut pack) {
-        Ok(()) => Ok(pack.steps),
-        Err(fault) => Err(BadLine {
-            line: number,
-            fault,
-        }),
-    }
+    groups::end(&mut pack).map_err(|fault| BadLine {
+        line: number,
+        fault,
+    })?;
+    Ok(pack.steps)
 }
 
 // Packs a text into a buffer, and gives the bytes of its record.

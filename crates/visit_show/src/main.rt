@@ -43,7 +43,7 @@ fn show_steps(rt: &HostRuntime, steps: &[u32], count: usize, page: &mut [u8]) ->
 }
 
 // Shows what standard input has: one byte more than a record's most is read, so that more are seen to be too many.
-// Or says on standard error why the record is refused.
+// Where the record is refused, standard error says why.
 fn show(rt: &HostRuntime, record: &mut [u8], steps: &mut [u32], page: &mut [u8]) -> io::Result<()> {
     let Ok(count) = visit_input::read_all(&mut rt.stdin(), record) else {
         return eprintln!(rt; "visit show: the input could not be read");

@@ -1,5 +1,5 @@
 // Amounts: digits, and where a point follows them decimals; and the word that an amount of a channel stands for.
-ghost use Rattle.std.specs.Prelude.{◌≡◌, ◌+◌, ◌*◌, ◌<◌, ◌≤◌, ◌^◌, IfSome, length as size, true};
+ghost use Rattle.std.specs.Prelude.{◌≡◌, ◌+◌, ◌*◌, ◌<◌, ◌^◌, IfSome, length as size, true};
 ghost use Rattle.visit_typed.specs.Typed as typed;
 
 use crate::{Fault, Typed, digits};
