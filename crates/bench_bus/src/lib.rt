@@ -55,6 +55,7 @@ fn unaddressed(encoded: Result<usize, Refusal>) -> Result<Decoded, Refusal>
 }
 
 // Writes what decoding answers, and the buffer.
+#[tactic(auto, using(bench_page::proofs::Laws::joined), unfolding(crate::specs::Messages::message))]
 fn write_decoded(decoded: Result<Decoded, Refusal>, lent: &[u8], page: &mut Page)
     ensures { page.new ≡ page.old ▹ messages.message (decoded_answer decoded, lent.now) }
 {

@@ -9,6 +9,7 @@ use bench_page::Page;
 use calibration::{Calibration, HumidityWords, PressureWords, TemperatureWords, Words};
 
 // Writes the words that two blocks hold, or the number that refuses the blocks.
+#[tactic(auto, unfolding(crate::specs::Words::calibration))]
 pub fn write_calibration(known: Calibration, page: &mut Page)
     ensures { page.new ≡ page.old ▹ text.calibration known }
 {
@@ -19,6 +20,7 @@ pub fn write_calibration(known: Calibration, page: &mut Page)
 }
 
 // Writes a chip's words.
+#[tactic(auto, using(bench_page::proofs::Laws::joined), unfolding(crate::specs::Words::words))]
 fn write_words(w: Words, page: &mut Page)
     ensures { page.new ≡ page.old ▹ text.words w }
 {

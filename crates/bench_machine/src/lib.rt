@@ -16,6 +16,7 @@ use kinds::Kind;
 use machine::{Event, Machine, Outcome, Tally};
 
 // Writes a line with what an event hands back, and gives the machine after it.
+#[tactic(auto, unfolding(crate::specs::Outcomes::event))]
 pub fn event(m: Machine, e: Event, page: &mut Page) -> Machine
     ensures { (result, page.new) ≡ outcomes.event m e page.old }
 {
@@ -32,6 +33,7 @@ pub fn ledger(m: Machine, page: &mut Page)
 }
 
 // Gives the fresh machine of a kind of part as after so many conversions, and writes a line that it is done.
+#[tactic(auto, unfolding(crate::specs::Outcomes::fresh))]
 pub fn fresh(kind: Kind, n: u32, page: &mut Page) -> Machine
     ensures { (result, page.new) ≡ outcomes.fresh kind n page.old }
 {

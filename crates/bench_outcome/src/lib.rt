@@ -31,6 +31,7 @@ pub enum Shape {
 }
 
 // Writes what was said, in a shape.
+#[tactic(auto, using(bench_page::proofs::Laws::joined), unfolding(crate::specs::Outcomes::closed))]
 pub fn write_said(said: Said, shape: Shape, page: &mut Page)
     ensures { page.new ≡ page.old ▹ text.text said shape }
 {
@@ -56,6 +57,7 @@ fn write_value(answer: u8, value: u8, page: &mut Page)
 }
 
 // Writes a close's number, and where it is done what the burst showed.
+#[tactic(auto, using(bench_page::proofs::Laws::joined, crate::proofs::Bits::flag), unfolding(crate::specs::Outcomes::burst))]
 fn write_closing(said: Said, page: &mut Page)
     ensures { page.new ≡ page.old ▹ text.closing said }
 {
@@ -89,6 +91,7 @@ fn write_whole(whole: bool, page: &mut Page)
 }
 
 // Writes the lent buffer: the first bytes of a whole close, as many as were lent, and otherwise as it was lent.
+#[tactic(auto, unfolding(bench_lent::specs::Lent::lent_of))]
 fn write_left(said: Said, length: usize, page: &mut Page)
     ensures { page.new ≡ page.old ▹ buffer (text.left said length) }
 {

@@ -27,6 +27,7 @@ pub fn comp(answer: Answer, page: &mut Page)
 }
 
 // Writes the number that says there is a reading, and its channels.
+#[tactic(auto, using(bench_page::proofs::Laws::joined), unfolding(crate::specs::Reading::reading))]
 fn write_reading(reading: Reading, page: &mut Page)
     ensures { page.new ≡ page.old ▹ text.reading reading }
 {
@@ -35,6 +36,7 @@ fn write_reading(reading: Reading, page: &mut Page)
 }
 
 // Writes the three channels of a reading, each after a space.
+#[tactic(auto, using(bench_page::proofs::Laws::joined), unfolding(crate::specs::Reading::channels))]
 pub fn write_channels(reading: Reading, page: &mut Page)
     ensures { page.new ≡ page.old ▹ text.channels reading }
 {

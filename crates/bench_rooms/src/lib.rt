@@ -13,6 +13,7 @@ use rooms::{Cell, Cells, MapPoint, Verdict, Verdicts};
 // Three on a line stand out each time: a closure for one of them would take the page as these calls do, and be longer.
 
 // Writes a map point.
+#[tactic(auto, using(bench_page::proofs::Laws::joined, crate::proofs::Laws::three, crate::proofs::Laws::flagged), unfolding(crate::specs::Map::point))]
 pub fn point(point: MapPoint, page: &mut Page)
     ensures { page.new ≡ page.old ▹ text.point point }
 {
@@ -33,6 +34,7 @@ pub fn point(point: MapPoint, page: &mut Page)
 }
 
 // Writes the three cells of a reading.
+#[tactic(auto, using(crate::proofs::Laws::three), unfolding(crate::specs::Map::cells))]
 pub fn cells(cells: Cells, page: &mut Page)
     ensures { page.new ≡ page.old ▹ text.cells cells }
 {
@@ -44,6 +46,7 @@ pub fn cells(cells: Cells, page: &mut Page)
 }
 
 // Writes what two rooms are to each other.
+#[tactic(auto, using(crate::proofs::Laws::three), unfolding(crate::specs::Map::verdicts))]
 pub fn verdicts(verdicts: Verdicts, page: &mut Page)
     ensures { page.new ≡ page.old ▹ text.verdicts verdicts }
 {
@@ -67,6 +70,7 @@ fn bits(x: f64) -> u64
 
 // Writes a double after its letter: its bits, in 16 hex digits.
 // A mark shows the lowest byte of its number, so each is divided: out of `to_be_bytes` each of the eight would be widened by hand again.
+#[tactic(auto, unfolding(crate::specs::Map::double))]
 fn write_double(letter: u8, x: f64, page: &mut Page)
     ensures { page.new ≡ page.old ▹ text.double letter x }
 {
@@ -88,6 +92,7 @@ fn write_double(letter: u8, x: f64, page: &mut Page)
 }
 
 // Writes a cell after its letter: its double, or the number in its place.
+#[tactic(auto, unfolding(crate::specs::Map::cell))]
 fn write_cell(letter: u8, cell: Cell, page: &mut Page)
     ensures { page.new ≡ page.old ▹ text.cell letter cell }
 {
@@ -100,6 +105,7 @@ fn write_cell(letter: u8, cell: Cell, page: &mut Page)
 }
 
 // Writes a verdict after its letter.
+#[tactic(auto, using(bench_page::proofs::Laws::first), unfolding(crate::specs::Map::verdict))]
 fn write_verdict(letter: u8, verdict: Verdict, page: &mut Page)
     ensures { page.new ≡ page.old ▹ text.verdict letter verdict }
 {

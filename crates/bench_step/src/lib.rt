@@ -64,6 +64,7 @@ pub fn write(step: Step, page: &mut Page)
 }
 
 // Writes a slot: its time, and a colon before each channel.
+#[tactic(auto, using(bench_page::proofs::Laws::joined), unfolding(crate::specs::Showing::slot))]
 fn write_slot(slot: Slot, page: &mut Page)
     ensures { page.new ≡ page.old ▹ text.slot slot }
 {

@@ -62,6 +62,7 @@ fn write_read(read: Result<usize, RecordError>, list: &[u32], page: &mut Page)
 }
 
 // Writes a number and the steps that were read, or the offset at which they were refused.
+#[tactic(auto, using(bench_page::proofs::Laws::joined))]
 fn write_listed(number: u8, n: usize, list: &[u32], page: &mut Page)
     ensures { page.new ≡ page.old ▹ text.listed number n list.now }
 {
@@ -105,6 +106,7 @@ fn write_record(list: &[u32], room: usize, page: &mut Page)
 }
 
 // Writes what writing answers, the buffer, and a newline.
+#[tactic(auto, using(bench_page::proofs::Laws::joined), unfolding(crate::specs::Visits::written))]
 fn write_lent(written: Result<usize, RecordError>, lent: &[u8], page: &mut Page)
     ensures { page.new ≡ ended (page.old ▹ text.written (written_answer written, lent.now)) }
 {

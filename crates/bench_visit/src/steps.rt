@@ -50,6 +50,7 @@ pub fn write(list: &[u32], n: usize, page: &mut Page)
 }
 
 // Writes the step at a place of a list, after a space where it is not the first.
+#[tactic(auto, using(bench_page::proofs::Laws::joined))]
 fn write_one(list: &[u32], k: usize, page: &mut Page)
     ensures { page.new ≡ page.old ▹ text.one k list.now }
 {
