@@ -6,6 +6,7 @@ mod lines; // what a line is answered
 use bench_bytes::{front, rest};
 use bench_page::Page;
 use kinds::Kind;
+use memchr::memchr;
 use std::io;
 use std::io::{Print, Read};
 use std::process::ExitCode;
@@ -44,7 +45,7 @@ const FULL: usize = 54000;
 
 // The place of the first newline from a place on, or where there is none the block's end.
 fn newline(block: &[u8], from: usize) -> usize {
-    match rest(block, from).iter().position(|&byte| byte == b'\n') {
+    match memchr(b'\n', rest(block, from)) {
         Some(i) => from + i,
         None => from.max(block.len()),
     }

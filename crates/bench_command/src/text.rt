@@ -3,6 +3,8 @@ ghost use Rattle.std.specs.Prelude.{◌≡◌, ◌≤◌, length};
 ghost use Rattle.std.specs.List.{count_by};
 ghost use Rattle.bench_command.specs.Words as words;
 
+use memchr::memchr_iter;
+
 // How many words a text has: one more than spaces.
 #[tactic(auto, using(crate::proofs::Counting::counted))]
 pub fn count(text: &[u8]) -> usize
@@ -12,11 +14,12 @@ pub fn count(text: &[u8]) -> usize
 }
 
 // How many spaces stand in a text.
+#[tactic(auto, using(crate::proofs::Counting::found))]
 fn spaces(text: &[u8]) -> usize
     ensures value { result ≡ count_by words.is_space text.now }
     ensures bound { result ≤ length text.now }
 {
-    text.iter().filter(|&&byte| byte == b' ').count()
+    memchr_iter(b' ', text).count()
 }
 
 // The place after one, and past the text's end the same.
