@@ -37,16 +37,16 @@ pub fn held_will_begin(d: Device) -> bool
 pub fn convert(m: Machine, bytes: [u8; 8]) -> Machine
     ensures { result ≡ ev.converted m bytes }
 {
+    // The device changes in place: made anew by struct update here, the machine would go through memory.
+    let device = m.device;
     let finished = Conversion {
         number: m.ledger.begun,
-        codes: m.device.codes,
+        codes: device.codes,
         bytes,
         delivered: false,
     };
-    let landed = Machine {
-        device: rest(m.device),
-        ..machine_conversion::land(finished, m)
-    };
+    let mut landed = machine_conversion::land(finished, m);
+    landed.device = rest(device);
     machine_control::take_held(m.device.held, landed)
 }
 

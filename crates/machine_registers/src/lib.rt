@@ -37,11 +37,13 @@ fn data_at(address: u8, m: Machine) -> u8
 pub fn register(address: u8, m: Machine) -> u8
     ensures { result ≡ bytes.register address m }
 {
+    // The device is copied out for the arms of its own fields: read in the machine there, all of it would go through memory.
+    let device = m.device;
     match address {
         paper::CHIP_ID => kinds::facts(m.device.kind).id,
-        paper::CTRL_HUM => machine_state::f2_of(m.device),
-        paper::STATUS => status(m.device),
-        paper::CTRL_MEAS => m.device.f4,
+        paper::CTRL_HUM => machine_state::f2_of(device),
+        paper::STATUS => status(device),
+        paper::CTRL_MEAS => device.f4,
         paper::CONFIG => m.device.f5,
         _ => data_at(address, m),
     }

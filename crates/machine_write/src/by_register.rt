@@ -48,8 +48,9 @@ fn hold_f4(m: Machine, value: u8) -> Outcome
     if m.device.held.is_some() {
         return answer(paper::IGNORED, m);
     }
-    let device = machine_state::with_held(Some(value), m.device);
-    answer(paper::DONE, Machine { device, ..m })
+    let mut n = m;
+    n.device = machine_state::with_held(Some(value), m.device);
+    answer(paper::DONE, n)
 }
 
 // F4 takes effect, unless it would begin one too many.
